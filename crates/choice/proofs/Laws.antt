@@ -1,0 +1,54 @@
+-- When a number of a list of checks is given: exactly when its condition holds and no earlier one does.
+use mathlib.Core.Path.{_≡_, refl, _∙_, sym, subst}
+use mathlib.Core.Bool.{Bool, true, false, not}
+use mathlib.Core.List.{List, [], _∷_, _++_}
+use Prim.Native.Nat.{ℕ}
+use native.Mathlib.Omega.{arith}
+use lib.Dec.{T, eqb}
+use borrow.Author.Tests.{eq-eqb}
+use Rattle.choice.specs.Checks.{Check, check, refusal, clear, without}
+
+pub never : false ≡ true → ⊥
+never h = subst (λ (b : Bool). T (not b)) h tt
+
+-- a number that no check of the list has is not given by it
+other : (k : ℕ) (xs : List Check) → T (without k xs) → (k ≡ 0 → ⊥) → refusal xs ≡ k → ⊥
+other k [] t n e = n (sym e)
+other k (x ∷ xs) t n e = by-test (eqb (x .number) k) (x .holds) refl t e (λ t e. other k xs t n e)
+  where
+    by-test : (same holds : Bool) → eqb (x .number) k ≡ same
+        → T (elim same [ true ↦ false | false ↦ without k xs ])
+        → elim holds [ true ↦ x .number | false ↦ refusal xs ] ≡ k
+        → (T (without k xs) → refusal xs ≡ k → ⊥) → ⊥
+    by-test true holds q t e rest = absurd t
+    by-test false true q t e rest = never (sym q ∙ eq-eqb (x .number) k e)
+    by-test false false q t e rest = rest t e
+
+-- a check of the list, by what stands before it and after it; no check after it has its number
+module _ (k : ℕ) (b : Bool) (after : List Check) (positive : k ≡ 0 → ⊥) (last : T (without k after)) where
+  pub given : (before : List Check) → T (clear before) → b ≡ true → refusal (before ++ check k b ∷ after) ≡ k
+  given [] t e = rw e
+  given (x ∷ before) t e = by-test (x .holds) t (λ t. given before t e)
+    where
+      by-test : (holds : Bool) → T (elim holds [ true ↦ false | false ↦ clear before ])
+          → (T (clear before) → refusal (before ++ check k b ∷ after) ≡ k)
+          → elim holds [ true ↦ x .number | false ↦ refusal (before ++ check k b ∷ after) ] ≡ k
+      by-test true t rest = absurd t
+      by-test false t rest = rest t
+
+  here : (holds : Bool) → elim holds [ true ↦ k | false ↦ refusal after ] ≡ k → holds ≡ true
+  here true e = refl
+  here false e = absurd (other k after last positive e)
+
+  pub only : (before : List Check) → T (without k before) → refusal (before ++ check k b ∷ after) ≡ k → T (clear before) × (b ≡ true)
+  only [] t e = (tt, here b e)
+  only (x ∷ before) t e = by-test (eqb (x .number) k) (x .holds) refl t e (λ t e. only before t e)
+    where
+      by-test : (same holds : Bool) → eqb (x .number) k ≡ same
+          → T (elim same [ true ↦ false | false ↦ without k before ])
+          → elim holds [ true ↦ x .number | false ↦ refusal (before ++ check k b ∷ after) ] ≡ k
+          → (T (without k before) → refusal (before ++ check k b ∷ after) ≡ k → T (clear before) × (b ≡ true))
+          → T (elim holds [ true ↦ false | false ↦ clear before ]) × (b ≡ true)
+      by-test true holds q t e rest = absurd t
+      by-test false true q t e rest = absurd (never (sym q ∙ eq-eqb (x .number) k e))
+      by-test false false q t e rest = rest t e
