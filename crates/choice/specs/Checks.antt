@@ -1,10 +1,10 @@
 -- The order of checks as data: a list of numbers with their conditions, of which the first that holds is given.
 use Prim.Native.Nat.{ℕ}
-use mathlib.Core.Bool.{Bool, true, false, not}
+use mathlib.Core.Bool.{Bool, true, false}
 use mathlib.Core.List.{List, [], _∷_}
 use lib.Dec.{eqb}
 
--- a number of document 01's table of refusals, and whether its condition holds
+-- a number of document 01's table of refusals, never 0, and whether its condition holds
 pub record Check : Type 0 where
   pub number : ℕ
   pub holds : Bool

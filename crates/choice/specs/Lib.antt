@@ -1,2 +1,4 @@
 pub mod Pick
 pub mod Checks
+pub mod Tells
+pub mod Along

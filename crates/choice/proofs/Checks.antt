@@ -7,9 +7,7 @@ use native.Mathlib.Omega.{arith}
 use lib.Dec.{T, eqb}
 use borrow.Author.Tests.{eq-eqb}
 use Rattle.choice.specs.Checks.{Check, check, refusal, clear, without}
-
-pub never : false ≡ true → ⊥
-never h = subst (λ (b : Bool). T (not b)) h tt
+use Rattle.choice.proofs.Spans.{never}
 
 -- a number that no check of the list has is not given by it
 other : (k : ℕ) (xs : List Check) → T (without k xs) → (k ≡ 0 → ⊥) → refusal xs ≡ k → ⊥

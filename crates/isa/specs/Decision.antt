@@ -1,0 +1,49 @@
+-- What the parts of decoder and encoder answer. The decision over quadrant, A and B answers a slot by the number of its first row.
+use Prim.Native.Nat.{ℕ, _<_}
+use mathlib.Core.List.{List, [], _∷_}
+use mathlib.Core.Bool.{not}
+use lib.Dec.{eqb, leb, ltb}
+use Rattle.choice.specs.Pick.{pick}
+use Rattle.choice.specs.Checks.{check, refusal}
+use Rattle.choice.specs.Tells.{Tells, tells}
+use Rattle.isa.specs.declared.Family.the-variants.{Bonr, Rotnr}
+use Rattle.isa.specs.declared.Row.{Row}
+use Rattle.isa.specs.declared.Named.{Named}
+use Rattle.isa.specs.Fields.{modeOf, wordOf}
+use Rattle.isa.specs.Table.{noRow, numberOf, rowAt}
+use Rattle.isa.specs.Slots.{slotRows, takes}
+use Rattle.isa.specs.Words.{ruleChecks}
+
+abbrev pub firstOf : List ℕ → ℕ
+firstOf [] = noRow
+firstOf (i ∷ is) = i
+
+-- the slot's number; noRow where it has no row
+abbrev pub slotOf : ℕ → ℕ → ℕ → ℕ → ℕ
+slotOf mark q a b = firstOf (slotRows mark q a b)
+
+-- the rows of the slot that row s is in: BONR and ROTNR share one, and no other slot has two rows
+abbrev pub sharing : ℕ → List ℕ
+sharing s =
+    pick (ltb s noRow)
+    (pick (eqb s (numberOf Bonr)) (numberOf Bonr ∷ numberOf Rotnr ∷ [])
+    (pick (eqb s (numberOf Rotnr)) (numberOf Bonr ∷ numberOf Rotnr ∷ []) (s ∷ [])))
+    []
+
+-- the answer for a word's fields, once its row's number is known
+unfoldable pub judgeOf : ℕ → ℕ → ℕ → ℕ → ℕ → Tells Named
+judgeOf i mark a b c =
+    tells (refusal (check 7 (leb noRow i) ∷ ruleChecks (rowAt i) mark a b))
+    (record { family = rowAt i .family; mode = modeOf mark; a = a; b = b; c = c })
+
+-- the fields of a row are no wider than those of a word
+pub record Narrow (r : Row) : Type 0 where
+  pub quadrant : r .quadrant < 4
+  pub a : r .a < 0x10000
+  pub b : r .b < 0x10000
+  pub c : r .c < 0x100000000
+
+-- the answer for the fields of a named instruction, once its row is known
+unfoldable pub fillOf : Row → ℕ → ℕ → ℕ → ℕ → Tells ℕ
+fillOf r mark a b c =
+    tells (refusal (check 7 (not (takes r mark a b c)) ∷ ruleChecks r mark a b)) (wordOf mark (r .quadrant) a b c)

@@ -1,0 +1,92 @@
+-- Words and named instructions: what decoding and encoding tell (document 01, the instruction list and the refusal numbers).
+use Prim.Native.Nat.{ℕ, _+_}
+use mathlib.Core.Bool.{Bool, true, false, not}
+use mathlib.Core.List.{List, [], _∷_, _++_}
+use mathlib.Core.Option.{Option, none, some}
+use lib.Dec.{eqb, leb, ltb}
+use Rattle.choice.specs.Pick.{pick}
+use Rattle.choice.specs.Checks.{Check, check, refusal}
+use Rattle.choice.specs.Tells.{Tells, accepted, refused, tells}
+use Rattle.isa.specs.declared.Row.{Row}
+use Rattle.isa.specs.declared.Named.{Named}
+use Rattle.isa.specs.declared.Decoded.{Decoded}
+use Rattle.isa.specs.declared.Encoded.{Encoded}
+use Rattle.isa.specs.Fields.{markOf, quadrantOf, fieldA, fieldB, fieldC, wordOf, modeOf, markFor}
+use Rattle.isa.specs.Sets.{has}
+use Rattle.isa.specs.Table.{rowAt, noRow, numberOf, oneAcc, bitInMode}
+use Rattle.isa.specs.Slots.{takes, rowOf}
+
+-- 8: prioritize with ACC as source (B 4) and as mask (A 8)
+abbrev pub accTwice : Row → ℕ → ℕ → Bool
+accTwice r a b = pick (eqb (r .rule) oneAcc) (pick (eqb a 8) (eqb b 4) false) false
+
+-- 9: a bit instruction in byte mode with n over 7
+abbrev pub bitTooHigh : Row → ℕ → ℕ → Bool
+bitTooHigh r mark a = pick (eqb (r .rule) bitInMode) (pick (eqb mark 0) (ltb 7 a) false) false
+
+-- what a row's rule refuses, in words and named instructions alike
+abbrev pub ruleChecks : Row → ℕ → ℕ → ℕ → List Check
+ruleChecks r mark a b = check 8 (accTwice r a b) ∷ check 9 (bitTooHigh r mark a) ∷ []
+
+-- the number of the row that a word belongs to, and that row
+abbrev pub wordNumber : ℕ → ℕ
+wordNumber w = rowOf (markOf w) (quadrantOf w) (fieldA w) (fieldB w) (fieldC w)
+
+abbrev pub wordRow : ℕ → Row
+wordRow w = rowAt (wordNumber w)
+
+-- 7 for a word: it is not on the list
+abbrev pub unlistedWord : ℕ → List Check
+unlistedWord w = check 7 (leb noRow (wordNumber w)) ∷ []
+
+abbrev pub wordChecks : ℕ → List Check
+wordChecks w = unlistedWord w ++ ruleChecks (wordRow w) (markOf w) (fieldA w) (fieldB w)
+
+-- the instruction that a listed word names
+abbrev pub namedBy : ℕ → Named
+namedBy w = record { family = wordRow w .family; mode = modeOf (markOf w); a = fieldA w; b = fieldB w; c = fieldC w }
+
+-- what decoding a word tells
+unfoldable pub decodeOf : ℕ → Tells Named
+decodeOf w = tells (refusal (wordChecks w)) (namedBy w)
+
+-- what the decoder's answer tells
+abbrev pub decodedTells : Decoded → Tells Named
+decodedTells (Decoded.Accepted n) = accepted n
+decodedTells (Decoded.Refused k) = refused k
+
+-- the row of an instruction's family
+abbrev pub namedRow : Named → Row
+namedRow n = rowAt (numberOf (n .family))
+
+-- 7 for a named instruction: its family does not take its mode and fields
+abbrev pub unlistedNamed : Named → List Check
+unlistedNamed n = check 7 (not (takes (namedRow n) (markFor (n .mode)) (n .a) (n .b) (n .c))) ∷ []
+
+abbrev pub namedChecks : Named → List Check
+namedChecks n = unlistedNamed n ++ ruleChecks (namedRow n) (markFor (n .mode)) (n .a) (n .b)
+
+-- the word of a named instruction of the list
+abbrev pub wordFor : Named → ℕ
+wordFor n = wordOf (markFor (n .mode)) (namedRow n .quadrant) (n .a) (n .b) (n .c)
+
+-- what encoding a named instruction tells
+unfoldable pub encodeOf : Named → Tells ℕ
+encodeOf n = tells (refusal (namedChecks n)) (wordFor n)
+
+-- what the encoder's answer tells
+abbrev pub encodedTells : Encoded → Tells ℕ
+encodedTells (Encoded.Accepted w) = accepted w
+encodedTells (Encoded.Refused k) = refused k
+
+-- the row's instruction with these values of A and B has an I operand
+abbrev pub asksI : Row → ℕ → ℕ → Bool
+asksI r a b = pick (has (r .immediate) a) true (has (r .immediate) (16 + b))
+
+abbrev pub namesI : Option Named → Bool
+namesI none = false
+namesI (some n) = asksI (namedRow n) (n .a) (n .b)
+
+-- a word is accepted, and its instruction has an I operand
+unfoldable pub takesImmediate : ℕ → Bool
+takesImmediate w = namesI (decodeOf w .value)
