@@ -2,6 +2,7 @@
 use mathlib.Core.Path.{_≡_, refl, _∙_, sym, subst}
 use mathlib.Core.Bool.{Bool, true, false, not}
 use mathlib.Core.List.{List, [], _∷_, _++_}
+use mathlib.Core.Logic.{_↔_}
 use Prim.Native.Nat.{ℕ}
 use native.Mathlib.Omega.{arith}
 use lib.Dec.{T, eqb}
@@ -21,6 +22,11 @@ other k (x ∷ xs) t n e = by-test (eqb (x .number) k) (x .holds) refl t e (λ t
     by-test true holds q t e rest = absurd t
     by-test false true q t e rest = never (sym q ∙ eq-eqb (x .number) k e)
     by-test false false q t e rest = rest t e
+
+-- where nothing is given, no check held
+pub cleared : (k : ℕ) (b : Bool) (xs : List Check) → (k ≡ 0 → ⊥) → refusal (check k b ∷ xs) ≡ 0 → (b ≡ false) × (refusal xs ≡ 0)
+cleared k true xs n e = absurd (n e)
+cleared k false xs n e = (refl, e)
 
 -- a check of the list, by what stands before it and after it; no check after it has its number
 module _ (k : ℕ) (b : Bool) (after : List Check) (positive : k ≡ 0 → ⊥) (last : T (without k after)) where
@@ -50,3 +56,7 @@ module _ (k : ℕ) (b : Bool) (after : List Check) (positive : k ≡ 0 → ⊥) 
       by-test true holds q t e rest = absurd t
       by-test false true q t e rest = absurd (never (sym q ∙ eq-eqb (x .number) k e))
       by-test false false q t e rest = rest t e
+
+  -- number k is given exactly when its condition holds and none before it does
+  pub exactly : (before : List Check) → T (without k before) → (refusal (before ++ check k b ∷ after) ≡ k) ↔ (T (clear before) × (b ≡ true))
+  exactly before t = (only before t, λ h. given before (h .0) (h .1))

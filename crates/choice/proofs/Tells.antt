@@ -43,3 +43,10 @@ module _ {A : Type 0} where
       by-test : (b : Bool) → eqb k 0 ≡ b → pick b (accepted x) (refused k) ≡ accepted y → (k ≡ 0) × (x ≡ y)
       by-test true q e = (eqb-true k 0 q, accepted-one x y e)
       by-test false q e = absurd (accepted-refused y k (sym e))
+
+  pub told-number : (k : ℕ) (x : A) → tells k x .number ≡ k
+  told-number k x = by-test (eqb k 0) refl
+    where
+      by-test : (b : Bool) → eqb k 0 ≡ b → pick b (accepted x) (refused k) .number ≡ k
+      by-test true q = sym (eqb-true k 0 q)
+      by-test false q = refl

@@ -5,3 +5,6 @@ pub mod Takes
 pub mod Arms
 pub mod Shared
 pub mod Answers
+pub mod Disjoint
+pub mod Found
+pub mod Laws

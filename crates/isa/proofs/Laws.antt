@@ -1,0 +1,236 @@
+-- What holds of words and named instructions: both round trips, one family to a word, each number exactly when its condition
+-- holds, and one answer to each call.
+use mathlib.Core.Path.{_≡_, refl, _∙_, sym, ap, subst}
+use mathlib.Core.Bool.{Bool, true, false, not}
+use mathlib.Core.List.{List, [], _∷_, _++_}
+use mathlib.Core.Logic.{_↔_}
+use mathlib.Core.Option.{none, some}
+use Prim.Native.Nat.{ℕ, _+_, _*_, _/_, _%_, _<_, _≤_}
+use native.Mathlib.Omega.{arith}
+use native.Mathlib.Nat.{div-div-eq-div-mul}
+use lib.Dec.{T, eqb, leb}
+use borrow.Author.Tests.{eqb-true, eqb-false, leb-false, leb-true, not-true, not-false}
+use Rattle.alu.specs.declared.Mode.{Mode}
+use Rattle.alu.specs.declared.Mode.the-variants.{Byte, Word}
+use Rattle.choice.specs.Pick.{pick}
+use Rattle.choice.specs.Checks.{Check, check, refusal, clear}
+use Rattle.choice.specs.Tells.{Tells, accepted, refused, tells}
+use Rattle.choice.proofs.Spans.{never}
+use Rattle.choice.proofs.Checks.{exactly, cleared}
+use Rattle.choice.proofs.Tells.{accepted-one, refused-one, accepted-refused, told-accepted, told-number}
+use Rattle.isa.specs.declared.Family.{Family}
+use Rattle.isa.specs.declared.Named.{Named}
+use Rattle.isa.specs.declared.Decoded.{Decoded}
+use Rattle.isa.specs.declared.Encoded.{Encoded}
+use Rattle.isa.specs.Fields.{markOf, quadrantOf, fieldA, fieldB, fieldC, wordOf, modeOf, markFor}
+use Rattle.isa.specs.Table.{rowAt, noRow, numberOf}
+use Rattle.isa.specs.Slots.{takes, rowOf}
+use Rattle.isa.specs.Words.{accTwice, bitTooHigh, ruleChecks, wordNumber, wordRow, unlistedWord, wordChecks, namedBy, decodeOf, decodedTells, namedRow, unlistedNamed, namedChecks, wordFor, encodeOf, encodedTells, takesImmediate}
+use Rattle.isa.specs.Decision.{judgeOf, fillOf}
+use Rattle.isa.proofs.Families.{own-row, own-number, narrow, mark-small}
+use Rattle.isa.proofs.Takes.{small}
+use Rattle.isa.proofs.Answers.{fill-accepted, judge-accepted, decoded}
+use Rattle.isa.proofs.Found.{Belongs, row-belongs, belongs-row}
+
+-- A family takes a word: the word's quadrant is the family's, and its row has the word's mode and fields.
+abbrev pub InFamily : Family → ℕ → Type 0
+InFamily f w = Belongs (markOf w) (quadrantOf w) (fieldA w) (fieldB w) (fieldC w) (numberOf f)
+
+-- at most one family takes a word
+pub one-family : (f g : Family) (w : ℕ) → InFamily f w → InFamily g w → f ≡ g
+one-family f g w t u =
+    sym (own-row f .1)
+    ∙ ap (λ (i : ℕ). rowAt i .family)
+    (sym (belongs-row (markOf w) (quadrantOf w) (fieldA w) (fieldB w) (fieldC w) (numberOf f) t) ∙ belongs-row (markOf w) (quadrantOf w) (fieldA w) (fieldB w) (fieldC w) (numberOf g) u)
+    ∙ own-row g .1
+
+-- the fields of a word that is made of fields, and the word made of a word's fields
+module _ (mark q a b c : ℕ) (h : (mark < 2) × (q < 4) × (a < 16) × (b < 16) × (c < 32)) where
+  abbrev made : ℕ
+  made = wordOf mark q a b c
+
+  pub made-small : made < 0x10000
+  made-small = omega arith
+
+  apart : (mark ≡ markOf made) × (q ≡ quadrantOf made) × (a ≡ fieldA made) × (b ≡ fieldB made) × (c ≡ fieldC made)
+  apart = (omega arith, omega arith, omega arith, omega arith, omega arith)
+
+joined : (w : ℕ) → w < 0x10000 → wordOf (markOf w) (quadrantOf w) (fieldA w) (fieldB w) (fieldC w) ≡ w
+joined w h = omega (arith, div-div-eq-div-mul w 0x20 16, div-div-eq-div-mul w 0x200 16, div-div-eq-div-mul w 0x2000 4)
+
+mode-back : (d : Mode) → modeOf (markFor d) ≡ d
+mode-back Byte = refl
+mode-back Word = refl
+
+mark-back : (mark : ℕ) → mark < 2 → markFor (modeOf mark) ≡ mark
+mark-back mark h = by-test (eqb mark 0) refl
+  where
+    by-test : (b : Bool) → eqb mark 0 ≡ b → markFor (pick b Byte Word) ≡ mark
+    by-test true q = sym (eqb-true mark 0 q)
+    by-test false q = omega (arith, eqb-false mark 0 q)
+
+-- an accepted word gives its instruction, whose word it is
+module _ (w : ℕ) (h : w < 0x10000) (n : Named) (e : decodeOf w ≡ accepted n) where
+  told : (refusal (wordChecks w) ≡ 0) × (namedBy w ≡ n)
+  unfolding decodeOf
+  told = told-accepted (refusal (wordChecks w)) (namedBy w) n e
+
+  free : (leb noRow (wordNumber w) ≡ false) × (refusal (ruleChecks (wordRow w) (markOf w) (fieldA w) (fieldB w)) ≡ 0)
+  free = cleared 7 (leb noRow (wordNumber w)) (ruleChecks (wordRow w) (markOf w) (fieldA w) (fieldB w)) (λ z. omega arith) (told .0)
+
+  own : Belongs (markOf w) (quadrantOf w) (fieldA w) (fieldB w) (fieldC w) (wordNumber w)
+  own = row-belongs (markOf w) (quadrantOf w) (fieldA w) (fieldB w) (fieldC w) (leb-false noRow (wordNumber w) (free .0))
+
+  pub encode-decode : encodeOf n ≡ accepted w
+  unfolding encodeOf fillOf
+  encode-decode =
+      ap encodeOf (sym (told .1))
+      ∙ ap (λ (i : ℕ). fillOf (rowAt i) (markFor (modeOf (markOf w))) (fieldA w) (fieldB w) (fieldC w)) (own-number (wordNumber w) (own .listed))
+      ∙ ap (λ (m : ℕ). fillOf (wordRow w) m (fieldA w) (fieldB w) (fieldC w)) (mark-back (markOf w) (omega arith))
+      ∙ sym (fill-accepted (wordRow w) (markOf w) (fieldA w) (fieldB w) (fieldC w) true (sym (own .fields)) refl 0 (sym (free .1)) refl)
+      ∙ ap (λ (q : ℕ). accepted (wordOf (markOf w) q (fieldA w) (fieldB w) (fieldC w))) (own .quadrant)
+      ∙ ap accepted (joined w h)
+
+five : {A : Type 0} (f : ℕ → ℕ → ℕ → ℕ → ℕ → A) (m q a b c m′ q′ a′ b′ c′ : ℕ) → (m ≡ m′) × (q ≡ q′) × (a ≡ a′) × (b ≡ b′) × (c ≡ c′) → f m q a b c ≡ f m′ q′ a′ b′ c′
+five f m q a b c m′ q′ a′ b′ c′ (em, eq, ea, eb, ec) = cc
+
+-- an accepted instruction has a word, whose instruction it is
+module _ (n : Named) (w : ℕ) (e : encodeOf n ≡ accepted w) where
+  abbrev mark : ℕ
+  mark = markFor (n .mode)
+
+  named-told : (refusal (namedChecks n) ≡ 0) × (wordFor n ≡ w)
+  unfolding encodeOf
+  named-told = told-accepted (refusal (namedChecks n)) (wordFor n) w e
+
+  named-free : (not (takes (namedRow n) mark (n .a) (n .b) (n .c)) ≡ false) × (refusal (ruleChecks (namedRow n) mark (n .a) (n .b)) ≡ 0)
+  named-free = cleared 7 (not (takes (namedRow n) mark (n .a) (n .b) (n .c))) (ruleChecks (namedRow n) mark (n .a) (n .b)) (λ z. omega arith) (named-told .0)
+
+  named-own : Belongs mark (namedRow n .quadrant) (n .a) (n .b) (n .c) (numberOf (n .family))
+  named-own = record { listed = own-row (n .family) .0; quadrant = refl; fields = not-false (takes (namedRow n) mark (n .a) (n .b) (n .c)) (named-free .0) }
+
+  in-range : (mark < 2) × (namedRow n .quadrant < 4) × (n .a < 16) × (n .b < 16) × (n .c < 32)
+  in-range =
+      let z = narrow (numberOf (n .family)) (own-row (n .family) .0) in
+      let k = small (namedRow n) mark (n .a) (n .b) (n .c) z (named-own .fields) in
+      (mark-small (n .mode), z .quadrant, k .0, k .1, k .2)
+
+  pub encode-small : w < 0x10000
+  encode-small = subst (λ (w : ℕ). w < 0x10000) (named-told .1) (made-small mark (namedRow n .quadrant) (n .a) (n .b) (n .c) in-range)
+
+  abbrev v : ℕ
+  v = wordFor n
+
+  number-found : numberOf (n .family) ≡ wordNumber v
+  number-found =
+      sym (belongs-row mark (namedRow n .quadrant) (n .a) (n .b) (n .c) (numberOf (n .family)) named-own)
+      ∙ five rowOf mark (namedRow n .quadrant) (n .a) (n .b) (n .c) (markOf v) (quadrantOf v) (fieldA v) (fieldB v) (fieldC v)
+      (apart mark (namedRow n .quadrant) (n .a) (n .b) (n .c) in-range)
+
+  pub decode-encode : decodeOf w ≡ accepted n
+  decode-encode =
+      let i = numberOf (n .family) in
+      ap decodeOf (sym (named-told .1))
+      ∙ sym (decoded v i number-found)
+      ∙ sym (five (λ m q a b c. judgeOf i m a b c) mark (namedRow n .quadrant) (n .a) (n .b) (n .c) (markOf v) (quadrantOf v) (fieldA v) (fieldB v) (fieldC v)
+      (apart mark (namedRow n .quadrant) (n .a) (n .b) (n .c) in-range))
+      ∙ sym (judge-accepted i mark (n .a) (n .b) (n .c) 0 (namedRow n) (named-own .listed) refl (sym (named-free .1)) (n .mode) (sym (mode-back (n .mode))) refl)
+      ∙ ap (λ (f : Family). accepted (record { family = f; mode = n .mode; a = n .a; b = n .b; c = n .c })) (own-row (n .family) .1)
+
+-- a number's condition, said of what is told
+exactly-told : {A : Type 0} (k j : ℕ) (x : A) {P : Type 0} → (j ≡ k) ↔ P → (tells j x .number ≡ k) ↔ P
+exactly-told k j x h = rw (told-number j x) h
+
+positive : (k : ℕ) → T (leb 1 k) → k ≡ 0 → ⊥
+positive k t e = let h : T (leb 1 0) = rw e at t in absurd h
+
+past-all : (i j n : ℕ) → i ≡ j → n ≤ i → j < n → ⊥
+past-all i j n e l h = omega arith
+
+-- a word gets 7, 8 or 9 exactly when its condition holds and no earlier one does
+module _ (w : ℕ) where
+  listed-in : wordNumber w < noRow → InFamily (wordRow w .family) w
+  listed-in h =
+      subst (λ (i : ℕ). Belongs (markOf w) (quadrantOf w) (fieldA w) (fieldB w) (fieldC w) i) (sym (own-number (wordNumber w) h))
+      (row-belongs (markOf w) (quadrantOf w) (fieldA w) (fieldB w) (fieldC w) h)
+
+  unlisted-all : leb noRow (wordNumber w) ≡ true → (f : Family) → InFamily f w → ⊥
+  unlisted-all e f t =
+      past-all (wordNumber w) (numberOf f) noRow (belongs-row (markOf w) (quadrantOf w) (fieldA w) (fieldB w) (fieldC w) (numberOf f) t)
+      (leb-true noRow (wordNumber w) e) (own-row f .0)
+
+  all-unlisted : ((f : Family) → InFamily f w → ⊥) → leb noRow (wordNumber w) ≡ true
+  all-unlisted n = by-test (leb noRow (wordNumber w)) refl
+    where
+      by-test : (b : Bool) → leb noRow (wordNumber w) ≡ b → b ≡ true
+      by-test true q = refl
+      by-test false q = absurd (n (wordRow w .family) (listed-in (leb-false noRow (wordNumber w) q)))
+
+  -- 7: no family takes the word
+  pub word-seven : (decodeOf w .number ≡ 7) ↔ ((f : Family) → InFamily f w → ⊥)
+  unfolding decodeOf
+  word-seven =
+      let e = exactly 7 (leb noRow (wordNumber w)) (ruleChecks (wordRow w) (markOf w) (fieldA w) (fieldB w)) (positive 7 tt) tt [] tt in
+      exactly-told 7 (refusal (wordChecks w)) (namedBy w) (λ h. unlisted-all (e .0 h .1), λ n. e .1 (tt, all-unlisted n))
+
+  -- 8: a family takes it, and its rule about ACC is broken
+  pub word-eight : (decodeOf w .number ≡ 8) ↔ (T (clear (unlistedWord w)) × (accTwice (wordRow w) (fieldA w) (fieldB w) ≡ true))
+  unfolding decodeOf
+  word-eight =
+      exactly-told 8 (refusal (wordChecks w)) (namedBy w)
+      (exactly 8 (accTwice (wordRow w) (fieldA w) (fieldB w)) (check 9 (bitTooHigh (wordRow w) (markOf w) (fieldA w)) ∷ []) (positive 8 tt) tt (unlistedWord w) tt)
+
+  -- 9: a family takes it, the rule about ACC is not broken, and the one about n is
+  pub word-nine : (decodeOf w .number ≡ 9)
+      ↔ (T (clear (unlistedWord w ++ check 8 (accTwice (wordRow w) (fieldA w) (fieldB w)) ∷ [])) × (bitTooHigh (wordRow w) (markOf w) (fieldA w) ≡ true))
+  unfolding decodeOf
+  word-nine =
+      exactly-told 9 (refusal (wordChecks w)) (namedBy w)
+      (exactly 9 (bitTooHigh (wordRow w) (markOf w) (fieldA w)) [] (positive 9 tt) tt (unlistedWord w ++ check 8 (accTwice (wordRow w) (fieldA w) (fieldB w)) ∷ []) tt)
+
+-- and so does a named instruction
+module _ (n : Named) where
+  -- 7: its family does not take its mode and fields
+  pub named-seven : (encodeOf n .number ≡ 7) ↔ (takes (namedRow n) (markFor (n .mode)) (n .a) (n .b) (n .c) ≡ false)
+  unfolding encodeOf
+  named-seven =
+      let t = takes (namedRow n) (markFor (n .mode)) (n .a) (n .b) (n .c) in
+      let e = exactly 7 (not t) (ruleChecks (namedRow n) (markFor (n .mode)) (n .a) (n .b)) (positive 7 tt) tt [] tt in
+      exactly-told 7 (refusal (namedChecks n)) (wordFor n) (λ h. not-true t (e .0 h .1), λ h. e .1 (tt, ap not h))
+
+  -- 8 and 9: it takes them, and breaks its rule
+  pub named-eight : (encodeOf n .number ≡ 8) ↔ (T (clear (unlistedNamed n)) × (accTwice (namedRow n) (n .a) (n .b) ≡ true))
+  unfolding encodeOf
+  named-eight =
+      exactly-told 8 (refusal (namedChecks n)) (wordFor n)
+      (exactly 8 (accTwice (namedRow n) (n .a) (n .b)) (check 9 (bitTooHigh (namedRow n) (markFor (n .mode)) (n .a)) ∷ []) (positive 8 tt) tt (unlistedNamed n) tt)
+
+  pub named-nine : (encodeOf n .number ≡ 9)
+      ↔ (T (clear (unlistedNamed n ++ check 8 (accTwice (namedRow n) (n .a) (n .b)) ∷ [])) × (bitTooHigh (namedRow n) (markFor (n .mode)) (n .a) ≡ true))
+  unfolding encodeOf
+  named-nine =
+      exactly-told 9 (refusal (namedChecks n)) (wordFor n)
+      (exactly 9 (bitTooHigh (namedRow n) (markFor (n .mode)) (n .a)) [] (positive 9 tt) tt (unlistedNamed n ++ check 8 (accTwice (namedRow n) (n .a) (n .b)) ∷ []) tt)
+
+-- what an answer tells fixes the answer
+decoded-one : (r s : Decoded) → decodedTells r ≡ decodedTells s → r ≡ s
+decoded-one (Decoded.Accepted x) (Decoded.Accepted y) e = ap Decoded.Accepted (accepted-one x y e)
+decoded-one (Decoded.Accepted x) (Decoded.Refused k) e = absurd (accepted-refused x k e)
+decoded-one (Decoded.Refused k) (Decoded.Accepted x) e = absurd (accepted-refused x k (sym e))
+decoded-one (Decoded.Refused j) (Decoded.Refused k) e = ap Decoded.Refused (refused-one {A = Named} j k e)
+
+encoded-one : (r s : Encoded) → encodedTells r ≡ encodedTells s → r ≡ s
+encoded-one (Encoded.Accepted x) (Encoded.Accepted y) e = ap Encoded.Accepted (accepted-one x y e)
+encoded-one (Encoded.Accepted x) (Encoded.Refused k) e = absurd (accepted-refused x k e)
+encoded-one (Encoded.Refused k) (Encoded.Accepted x) e = absurd (accepted-refused x k (sym e))
+encoded-one (Encoded.Refused j) (Encoded.Refused k) e = ap Encoded.Refused (refused-one {A = ℕ} j k e)
+
+-- no two outcomes satisfy the statement of a call
+pub decode-unique : (w : ℕ) (r s : Decoded) → decodedTells r ≡ decodeOf w → decodedTells s ≡ decodeOf w → r ≡ s
+decode-unique w r s p q = decoded-one r s (p ∙ sym q)
+
+pub encode-unique : (n : Named) (r s : Encoded) → encodedTells r ≡ encodeOf n → encodedTells s ≡ encodeOf n → r ≡ s
+encode-unique n r s p q = encoded-one r s (p ∙ sym q)
+
+pub takes-immediate-unique : (w : ℕ) (r s : Bool) → r ≡ takesImmediate w → s ≡ takesImmediate w → r ≡ s
+takes-immediate-unique w r s p q = p ∙ sym q
