@@ -1,10 +1,9 @@
 -- When a number of a list of checks is given: exactly when its condition holds and no earlier one does.
-use mathlib.Core.Path.{_≡_, refl, _∙_, sym, subst}
-use mathlib.Core.Bool.{Bool, true, false, not}
+use mathlib.Core.Path.{_≡_, refl, _∙_, sym}
+use mathlib.Core.Bool.{Bool, true, false}
 use mathlib.Core.List.{List, [], _∷_, _++_}
 use mathlib.Core.Logic.{_↔_}
 use Prim.Native.Nat.{ℕ}
-use native.Mathlib.Omega.{arith}
 use lib.Dec.{T, eqb}
 use borrow.Author.Tests.{eq-eqb}
 use Rattle.choice.specs.Checks.{Check, check, refusal, clear, without}

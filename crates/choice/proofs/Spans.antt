@@ -1,9 +1,9 @@
 -- A test computed over a stretch of numbers, carried to each number of it.
-use mathlib.Core.Path.{_≡_, refl, subst, sym, _∙_}
+use mathlib.Core.Path.{_≡_, refl, subst}
 use mathlib.Core.Bool.{Bool, true, false, not}
 use Prim.Native.Nat.{ℕ, zero, suc, _+_, _<_, _≤_}
 use native.Mathlib.Omega.{arith}
-use lib.Dec.{T, eqb, eqb→eq}
+use lib.Dec.{T, eqb}
 use borrow.Author.Tests.{eqb-true, eqb-false}
 
 pub never : false ≡ true → ⊥

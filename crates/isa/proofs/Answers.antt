@@ -1,14 +1,13 @@
 -- The answers of decoder and encoder, from what their tests showed.
-use mathlib.Core.Path.{_≡_, refl, _∙_, sym, ap}
+use mathlib.Core.Path.{_≡_, _∙_, sym, ap}
 use mathlib.Core.Bool.{Bool, true, false, not}
-use mathlib.Core.List.{_∷_}
 use Prim.Native.Nat.{ℕ, _<_, _≤_}
 use native.Mathlib.Omega.{arith}
 use lib.Dec.{leb}
 use borrow.Author.Tests.{le-leb, lt-leb}
 use Rattle.alu.specs.declared.Mode.{Mode}
-use Rattle.choice.specs.Checks.{check, refusal}
-use Rattle.choice.specs.Tells.{Tells, accepted, refused, tells}
+use Rattle.choice.specs.Checks.{refusal}
+use Rattle.choice.specs.Tells.{accepted, refused, tells}
 use Rattle.choice.proofs.Tells.{tells-accepted, tells-refused, first-held, first-clear}
 use Rattle.isa.specs.declared.Row.{Row}
 use Rattle.isa.specs.declared.Named.{Named}

@@ -1,12 +1,12 @@
 -- No two rows take the same fields: a test over the pairs of rows, and what it says of every word.
 use mathlib.Core.Path.{_≡_, refl, _∙_, sym, ap}
 use mathlib.Core.Bool.{Bool, true, false, not}
-use Prim.Native.Nat.{ℕ, _<_, _/_, _%_, _*_, _+_, _^_, min}
+use Prim.Native.Nat.{ℕ, _<_, _/_, _%_, _^_, min}
 use native.Mathlib.Nat.{zero-div}
 use native.Mathlib.Omega.{arith}
-use lib.Dec.{T, eqb, eqb→eq}
+use lib.Dec.{T, eqb}
 use lib.Bits.{bitAnd, and-shr, and-step}
-use borrow.Author.Tests.{eqb-true, eqb-false, eq-eqb}
+use borrow.Author.Tests.{eqb-true, eq-eqb}
 use Rattle.choice.specs.Pick.{pick}
 use Rattle.choice.proofs.Spans.{span, below, never, holds}
 use Rattle.isa.specs.declared.Row.{Row}

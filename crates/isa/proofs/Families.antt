@@ -1,8 +1,7 @@
 -- The table's rows and the families: each family has one row, and its number is the row's.
-use mathlib.Core.Path.{_≡_, refl, sym, subst}
+use mathlib.Core.Path.{_≡_, refl}
 use mathlib.Core.Bool.{Bool, true, false}
 use Prim.Native.Nat.{ℕ, _<_}
-use native.Mathlib.Omega.{arith}
 use lib.Dec.{T, eqb, ltb, lit<, ltb→lt, eqb→eq}
 use lib.ListN.{length}
 use Rattle.alu.specs.declared.Mode.{Mode}

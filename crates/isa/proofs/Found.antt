@@ -3,17 +3,17 @@ use mathlib.Core.Path.{_≡_, refl, _∙_, sym, ap, subst}
 use mathlib.Core.Bool.{Bool, true, false}
 use mathlib.Core.List.{List, [], _∷_}
 use Prim.Native.Nat.{ℕ, zero, suc, _+_, _<_, _≤_}
-use native.Mathlib.Nat.{le-of-suc-le-suc, not-suc-le-zero}
+use native.Mathlib.Nat.{not-suc-le-zero}
 use native.Mathlib.Omega.{arith}
-use lib.Dec.{T, eqb, ltb}
+use lib.Dec.{eqb}
 use lib.ListN.{length, getD}
-use borrow.Author.Tests.{eq-eqb, eqb-true, ltb-true, ltb-false}
+use borrow.Author.Tests.{eq-eqb, eqb-true}
 use Rattle.choice.specs.Pick.{pick}
 use Rattle.choice.proofs.Spans.{never}
 use Rattle.isa.specs.declared.Row.{Row}
 use Rattle.isa.specs.Sets.{has}
 use Rattle.isa.specs.Table.{rows, rowAt, noRow}
-use Rattle.isa.specs.Slots.{agrees, fits, takes, fitting, slotRows, withC, rowOf}
+use Rattle.isa.specs.Slots.{agrees, fits, takes, fitting, withC, rowOf}
 use Rattle.isa.proofs.Lists.{any-default}
 use Rattle.isa.proofs.Takes.{in-turn}
 use Rattle.isa.proofs.Disjoint.{one-row}

@@ -2,10 +2,9 @@
 -- holds, and one answer to each call.
 use mathlib.Core.Path.{_≡_, refl, _∙_, sym, ap, subst}
 use mathlib.Core.Bool.{Bool, true, false, not}
-use mathlib.Core.List.{List, [], _∷_, _++_}
+use mathlib.Core.List.{[], _∷_, _++_}
 use mathlib.Core.Logic.{_↔_}
-use mathlib.Core.Option.{none, some}
-use Prim.Native.Nat.{ℕ, _+_, _*_, _/_, _%_, _<_, _≤_}
+use Prim.Native.Nat.{ℕ, _<_, _≤_}
 use native.Mathlib.Omega.{arith}
 use native.Mathlib.Nat.{div-div-eq-div-mul}
 use lib.Dec.{T, eqb, leb}
@@ -13,9 +12,8 @@ use borrow.Author.Tests.{eqb-true, eqb-false, leb-false, leb-true, not-true, not
 use Rattle.alu.specs.declared.Mode.{Mode}
 use Rattle.alu.specs.declared.Mode.the-variants.{Byte, Word}
 use Rattle.choice.specs.Pick.{pick}
-use Rattle.choice.specs.Checks.{Check, check, refusal, clear}
-use Rattle.choice.specs.Tells.{Tells, accepted, refused, tells}
-use Rattle.choice.proofs.Spans.{never}
+use Rattle.choice.specs.Checks.{check, refusal, clear}
+use Rattle.choice.specs.Tells.{accepted, tells}
 use Rattle.choice.proofs.Checks.{exactly, cleared}
 use Rattle.choice.proofs.Tells.{accepted-one, refused-one, accepted-refused, told-accepted, told-number}
 use Rattle.isa.specs.declared.Family.{Family}

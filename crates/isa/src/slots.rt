@@ -1,5 +1,7 @@
 // Which row a word belongs to: a decision over the quadrant and fields A and B, its slot, and then over field C.
-// A row is answered by its number.
+// A row is answered by its number. `slotOf mark quadrant A B` is the slot's; `Along eqb n rule x r` says that r is the rule at x,
+// for x below n. A decision that is the same for several marks or values is said of one of them, and the caller's proof carries
+// it to the others.
 use crate::number;
 ghost use mathlib.Core.Path.{_≡_};
 ghost use Prim.Native.Nat.{_<_, _≤_};

@@ -1,3 +1,4 @@
+-- `every_word::main` meets its contract: the loop counts the words up.
 use Prim.Native.Nat.{_-_, _≤_}
 use borrow.Author.Needs.{needs}
 use Rattle.every_word.proofs.main.Statement.{statement}

@@ -1,3 +1,4 @@
+-- `every_word::print_families` meets its contract: the loop stays inside the table.
 use Prim.Native.Nat.{_-_, _≤_}
 use borrow.Author.Needs.{needs}
 use Rattle.every_word.proofs.print_families.Statement.{statement}

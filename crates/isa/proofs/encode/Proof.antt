@@ -1,3 +1,4 @@
+-- `isa::encode` meets its contract: a family's number is its row's, and rows are narrow.
 use Rattle.isa.specs.Decision.{fillOf}
 use Rattle.isa.specs.Words.{encodeOf}
 use Prim.Native.Nat.{_<_}
@@ -6,34 +7,22 @@ use native.Mathlib.Omega.{arith}
 use borrow.Author.Needs.{needs}
 use Rattle.isa.proofs.encode.Statement.{statement}
 use Rattle.isa.proofs.encode.Tie as tie
-use Rattle.isa.proofs.encode.Reads as reads
-use Rattle.isa.proofs.encode.Lts as lts
-use Rattle.isa.proofs.fields.mark_for.Reads as mark-for-reads
-use Rattle.isa.proofs.fill.Reads as fill-reads
-use Rattle.isa.proofs.table.number_of.Reads as number-of-reads
-use Rattle.isa.proofs.table.row_at.Reads as row-at-reads
 
--- src/lib.rt:142:9
 number-of-requires : tie.Need-number-of-requires
 number-of-requires c κs = search needs
 
--- src/lib.rt:143:29
 cast-row-at : tie.Need-cast-row-at
 cast-row-at c = search needs
 
--- src/lib.rt:143:9
 row-at-requires : tie.Need-row-at-requires
 row-at-requires c κs = omega (arith, c .number-of .ensures, own-row (c .before .args .named .family) .0)
 
--- src/lib.rt:144:9
 mark-for-requires : tie.Need-mark-for-requires
 mark-for-requires c κs = search needs
 
--- src/lib.rt:145:5
 fill-requires : tie.Need-fill-requires
 fill-requires c κs = let i : c .before .before .number-of .result < 27 = omega (arith, c .before .before .number-of .ensures, own-row (c .before .before .before .args .named .family) .0) in (omega (arith, c .mark-for .ensures, mark-small (c .before .before .before .args .named .mode)), narrow-row (c .before .row-at .result) (c .before .before .number-of .result) i (c .before .row-at .ensures))
 
--- src/lib.rt:137:1
 returns : tie.Need-returns
 unfolding encodeOf fillOf
 returns c = rw (c .fill .ensures, c .before .mark-for .ensures, c .before .before .row-at .ensures, c .before .before .before .number-of .ensures)

@@ -1,34 +1,25 @@
+-- `isa::takes_immediate` meets its contract: the answer goes by what decoding told.
 use Rattle.isa.specs.Words.{takesImmediate}
 use borrow.Author.Needs.{needs}
 use Rattle.isa.proofs.takes_immediate.Statement.{statement}
 use Rattle.isa.proofs.takes_immediate.Tie as tie
-use Rattle.isa.proofs.takes_immediate.Reads as reads
-use Rattle.isa.proofs.takes_immediate.Lts as lts
-use Rattle.isa.proofs.decode.Reads as decode-reads
-use Rattle.isa.proofs.has_immediate.Reads as has-immediate-reads
 
--- src/lib.rt:162:11
 decode-requires : tie.Need-decode-requires
 decode-requires c κs = search needs
 
--- src/lib.rt:163:27
 enum-known-named : tie.Need-enum-known-named
 enum-known-named c = search needs
 
--- src/lib.rt:163:37
 has-immediate-requires : tie.Need-has-immediate-requires
 has-immediate-requires c κs = search needs
 
--- src/lib.rt:164:32
 enum-told : tie.Need-enum-told
 enum-told c = search needs
 
--- src/lib.rt:159:1
 returns : tie.Need-returns
 unfolding takesImmediate
 returns c = rw (← c .before .before .before .before .decode .ensures, c .before .before .named .given .1, c .has-immediate .ensures)
 
--- src/lib.rt:159:1
 returns-2 : tie.Need-returns-2
 unfolding takesImmediate
 returns-2 c = rw (← c .before .before .decode .ensures, c .enum-told .given .1)

@@ -1,27 +1,20 @@
+-- `isa::fields::asks_immediate` meets its contract: the tests made are those of the definition.
 use borrow.Author.Needs.{needs}
 use Rattle.isa.proofs.fields.asks_immediate.Statement.{statement}
 use Rattle.isa.proofs.fields.asks_immediate.Tie as tie
-use Rattle.isa.proofs.fields.asks_immediate.Reads as reads
-use Rattle.isa.proofs.fields.asks_immediate.Lts as lts
-use Rattle.isa.proofs.fields.holds.Reads as holds-reads
 
--- src/fields.rt:84:8
 holds-requires : tie.Need-holds-requires
 holds-requires c κs = search needs
 
--- src/fields.rt:87:30
 add-holds : tie.Need-add-holds
 add-holds c = search needs
 
--- src/fields.rt:87:9
 holds-requires-2 : tie.Need-holds-requires-2
 holds-requires-2 c κs = search needs
 
--- src/fields.rt:81:1
 returns : tie.Need-returns
 returns c = rw (← c .before .holds .ensures, c .if1 .taken)
 
--- src/fields.rt:81:1
 returns-2 : tie.Need-returns-2
 returns-2 c = rw (c .holds2 .ensures, ← c .before .before .holds .ensures, c .before .if1 .left)
 

@@ -1,14 +1,11 @@
-use borrow.Author.Tests.{eq-eqb, ne-eqb, lt-ltb, le-ltb, le-leb, lt-leb}
+-- `isa::fields::mode_of` meets its contract: the test made is that of the definition.
+use borrow.Author.Tests.{eq-eqb, ne-eqb}
 use Rattle.isa.proofs.fields.mode_of.Statement.{statement}
 use Rattle.isa.proofs.fields.mode_of.Tie as tie
-use Rattle.isa.proofs.fields.mode_of.Reads as reads
-use Rattle.isa.proofs.fields.mode_of.Lts as lts
 
--- src/fields.rt:11:1
 returns : tie.Need-returns
 returns c = rw (eq-eqb _ _ (c .if1 .taken))
 
--- src/fields.rt:11:1
 returns-2 : tie.Need-returns-2
 returns-2 c = rw (ne-eqb _ _ (c .if1 .left))
 

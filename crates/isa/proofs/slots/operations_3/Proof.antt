@@ -1,60 +1,43 @@
-use Rattle.isa.proofs.Arms.{one-row, by-b, by-a}
+-- `isa::slots::operations_3` meets its contract: each arm is a stretch of fields over which the slot is what the arm answers.
+use Rattle.isa.proofs.Arms.{one-row, by-b}
 use native.Mathlib.Omega.{arith}
 use borrow.Author.Needs.{needs}
 use Rattle.isa.proofs.slots.operations_3.Statement.{statement}
 use Rattle.isa.proofs.slots.operations_3.Tie as tie
-use Rattle.isa.proofs.slots.operations_3.Reads as reads
-use Rattle.isa.proofs.slots.operations_3.Lts as lts
-use Rattle.isa.proofs.slots.one_operand_3.Reads as one-operand-3-reads
-use Rattle.isa.proofs.slots.shift_3.Reads as shift-3-reads
-use Rattle.isa.proofs.slots.shift_or_save_3.Reads as shift-or-save-3-reads
-use Rattle.isa.proofs.slots.status_or_prioritize_3.Reads as status-or-prioritize-3-reads
 
--- src/slots.rt:244:14
 shift-3-requires : tie.Need-shift-3-requires
 shift-3-requires c κs = search needs
 
--- src/slots.rt:245:14
 shift-or-save-3-requires : tie.Need-shift-or-save-3-requires
 shift-or-save-3-requires c κs = search needs
 
--- src/slots.rt:246:19
 status-or-prioritize-3-requires : tie.Need-status-or-prioritize-3-requires
 status-or-prioritize-3-requires c κs = search needs
 
--- src/slots.rt:247:14
 one-operand-3-requires : tie.Need-one-operand-3-requires
 one-operand-3-requires c κs = search needs
 
--- src/slots.rt:235:1
 returns : tie.Need-returns
 returns c = one-row 3 0 2 0 1 0 12 27 tt (c .before .args .mark) (c .before .args .a) (c .before .args .b) (omega arith)
 
--- src/slots.rt:235:1
 returns-2 : tie.Need-returns-2
 returns-2 c = one-row 3 0 2 5 1 0 12 16 tt (c .before .args .mark) (c .before .args .a) (c .before .args .b) (omega arith)
 
--- src/slots.rt:235:1
 returns-3 : tie.Need-returns-3
 returns-3 c = by-b 3 0 2 6 1 0 12 0 6 tt (c .before .before .args .mark) (c .before .before .args .a) (c .before .before .args .b) _ 12 (omega arith) (omega arith) (c .shift-3 .ensures)
 
--- src/slots.rt:235:1
 returns-4 : tie.Need-returns-4
 returns-4 c = by-b 3 0 2 7 1 0 12 0 7 tt (c .before .before .args .mark) (c .before .before .args .a) (c .before .before .args .b) _ 12 (omega arith) (omega arith) (c .shift-or-save-3 .ensures)
 
--- src/slots.rt:235:1
 returns-5 : tie.Need-returns-5
 returns-5 c = one-row 3 0 2 1 2 0 12 16 tt (c .before .before .args .mark) (c .before .before .args .a) (c .before .before .args .b) (omega arith)
 
--- src/slots.rt:235:1
 returns-6 : tie.Need-returns-6
 returns-6 c = one-row 3 0 2 3 2 0 12 27 tt (c .before .before .before .args .mark) (c .before .before .before .args .a) (c .before .before .before .args .b) (omega arith)
 
--- src/slots.rt:235:1
 returns-7 : tie.Need-returns-7
 returns-7 c = search needs
 
--- src/slots.rt:235:1
 returns-8 : tie.Need-returns-8
 returns-8 c = by-b 3 0 2 12 4 0 12 0 12 tt (c .before .before .before .before .before .args .mark) (c .before .before .before .before .before .args .a) (c .before .before .before .before .before .args .b) _ 12 (omega arith) (omega arith) (c .one-operand-3 .ensures)
 

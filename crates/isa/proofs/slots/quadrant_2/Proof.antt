@@ -1,21 +1,16 @@
-use Rattle.isa.proofs.Arms.{one-row, by-b, by-a}
+-- `isa::slots::quadrant_2` meets its contract: B 12 to 15 is one slot; the rest is the callee's.
+use Rattle.isa.proofs.Arms.{one-row}
 use native.Mathlib.Omega.{arith}
 use borrow.Author.Needs.{needs}
 use Rattle.isa.proofs.slots.quadrant_2.Statement.{statement}
 use Rattle.isa.proofs.slots.quadrant_2.Tie as tie
-use Rattle.isa.proofs.slots.quadrant_2.Reads as reads
-use Rattle.isa.proofs.slots.quadrant_2.Lts as lts
-use Rattle.isa.proofs.slots.operations_2.Reads as operations-2-reads
 
--- src/slots.rt:154:19
 operations-2-requires : tie.Need-operations-2-requires
 operations-2-requires c κs = search needs
 
--- src/slots.rt:149:1
 returns : tie.Need-returns
 returns c = search needs
 
--- src/slots.rt:149:1
 returns-2 : tie.Need-returns-2
 returns-2 c = one-row 2 0 2 0 16 12 4 6 tt (c .before .args .mark) (c .before .args .a) (c .before .args .b) (omega arith)
 

@@ -1,3 +1,4 @@
+-- `isa::slots::with_c` meets its contract: each arm is a stretch of slots with one list for C.
 use Rattle.isa.specs.Table.{destinations, yOrAcc, flags, twiceCodes}
 use Rattle.isa.specs.Sets.{these}
 use mathlib.Core.List.{[], _∷_}
@@ -6,105 +7,73 @@ use native.Mathlib.Omega.{arith}
 use borrow.Author.Needs.{needs}
 use Rattle.isa.proofs.slots.with_c.Statement.{statement}
 use Rattle.isa.proofs.slots.with_c.Tie as tie
-use Rattle.isa.proofs.slots.with_c.Reads as reads
-use Rattle.isa.proofs.slots.with_c.Lts as lts
-use Rattle.isa.proofs.slots.bit_or_turn.Reads as bit-or-turn-reads
-use Rattle.isa.proofs.slots.is_destination.Reads as is-destination-reads
-use Rattle.isa.proofs.slots.is_flag.Reads as is-flag-reads
-use Rattle.isa.proofs.slots.is_twice_code.Reads as is-twice-code-reads
-use Rattle.isa.proofs.slots.is_y_or_acc.Reads as is-y-or-acc-reads
-use Rattle.isa.proofs.slots.is_zero.Reads as is-zero-reads
-use Rattle.isa.proofs.slots.kept.Reads as kept-reads
 
--- src/slots.rt:360:26
 is-y-or-acc-requires : tie.Need-is-y-or-acc-requires
 is-y-or-acc-requires c κs = search needs
 
--- src/slots.rt:360:15
 kept-requires : tie.Need-kept-requires
 kept-requires c κs = search needs
 
--- src/slots.rt:365:26
 is-twice-code-requires : tie.Need-is-twice-code-requires
 is-twice-code-requires c κs = search needs
 
--- src/slots.rt:365:15
 kept-requires-2 : tie.Need-kept-requires-2
 kept-requires-2 c κs = search needs
 
--- src/slots.rt:366:26
 is-zero-requires : tie.Need-is-zero-requires
 is-zero-requires c κs = search needs
 
--- src/slots.rt:366:15
 kept-requires-3 : tie.Need-kept-requires-3
 kept-requires-3 c κs = search needs
 
--- src/slots.rt:359:31
 is-destination-requires : tie.Need-is-destination-requires
 is-destination-requires c κs = search needs
 
--- src/slots.rt:359:20
 kept-requires-4 : tie.Need-kept-requires-4
 kept-requires-4 c κs = search needs
 
--- src/slots.rt:362:20
 bit-or-turn-requires : tie.Need-bit-or-turn-requires
 bit-or-turn-requires c κs = search needs
 
--- src/slots.rt:363:31
 is-y-or-acc-requires-2 : tie.Need-is-y-or-acc-requires-2
 is-y-or-acc-requires-2 c κs = search needs
 
--- src/slots.rt:363:20
 kept-requires-5 : tie.Need-kept-requires-5
 kept-requires-5 c κs = search needs
 
--- src/slots.rt:364:31
 is-flag-requires : tie.Need-is-flag-requires
 is-flag-requires c κs = search needs
 
--- src/slots.rt:364:20
 kept-requires-6 : tie.Need-kept-requires-6
 kept-requires-6 c κs = search needs
 
--- src/slots.rt:353:1
 returns : tie.Need-returns
 returns c = listed-c 17 1 (yOrAcc) tt (c .before .before .before .args .slot) (c .before .before .before .args .c) _ (c .before .is-y-or-acc .result) (omega arith) (c .before .is-y-or-acc .ensures) (c .kept .ensures)
 
--- src/slots.rt:353:1
 returns-2 : tie.Need-returns-2
 returns-2 c = every-c 18 1 tt (c .before .args .slot) (c .before .args .c) (omega arith)
 
--- src/slots.rt:353:1
 returns-3 : tie.Need-returns-3
 returns-3 c = listed-c 25 1 (twiceCodes) tt (c .before .before .before .args .slot) (c .before .before .before .args .c) _ (c .before .is-twice-code .result) (omega arith) (c .before .is-twice-code .ensures) (c .kept2 .ensures)
 
--- src/slots.rt:353:1
 returns-4 : tie.Need-returns-4
 returns-4 c = listed-c 26 1 (these (0 ∷ [])) tt (c .before .before .before .args .slot) (c .before .before .before .args .c) _ (c .before .is-zero .result) (omega arith) (c .before .is-zero .ensures) (c .kept3 .ensures)
 
--- src/slots.rt:353:1
 returns-5 : tie.Need-returns-5
 returns-5 c = every-c 0 15 tt (c .before .before .args .slot) (c .before .before .args .c) (omega arith)
 
--- src/slots.rt:353:1
 returns-6 : tie.Need-returns-6
 returns-6 c = listed-c 15 2 (destinations) tt (c .before .before .before .before .before .args .slot) (c .before .before .before .before .before .args .c) _ (c .before .is-destination .result) (omega arith) (c .before .is-destination .ensures) (c .kept4 .ensures)
 
--- src/slots.rt:353:1
 returns-7 : tie.Need-returns-7
 returns-7 c = shared-c 19 2 19 tt (c .before .before .before .before .before .args .slot) (c .before .before .before .before .before .args .c) _ (omega arith) (c .bit-or-turn .ensures)
 
--- src/slots.rt:353:1
 returns-8 : tie.Need-returns-8
 returns-8 c = listed-c 21 2 (yOrAcc) tt (c .before .before .before .before .before .before .before .args .slot) (c .before .before .before .before .before .before .before .args .c) _ (c .before .is-y-or-acc2 .result) (omega arith) (c .before .is-y-or-acc2 .ensures) (c .kept5 .ensures)
 
--- src/slots.rt:353:1
 returns-9 : tie.Need-returns-9
 returns-9 c = listed-c 23 2 (flags) tt (c .before .before .before .before .before .before .before .before .args .slot) (c .before .before .before .before .before .before .before .before .args .c) _ (c .before .is-flag .result) (omega arith) (c .before .is-flag .ensures) (c .kept6 .ensures)
 
--- src/slots.rt:353:1
 returns-10 : tie.Need-returns-10
 returns-10 c = none-c (c .before .before .before .before .before .before .args .slot) (c .before .before .before .before .before .before .args .c) (omega arith)
 
