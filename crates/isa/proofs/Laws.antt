@@ -3,7 +3,7 @@
 use mathlib.Core.Path.{_≡_, refl, _∙_, sym, ap, subst}
 use mathlib.Core.Bool.{Bool, true, false, not}
 use mathlib.Core.List.{[], _∷_, _++_}
-use mathlib.Core.Logic.{_↔_}
+use mathlib.Core.Logic.{_↔_, _⊎_, inl, inr}
 use Prim.Native.Nat.{ℕ, _<_, _≤_}
 use native.Mathlib.Omega.{arith}
 use native.Mathlib.Nat.{div-div-eq-div-mul}
@@ -13,7 +13,7 @@ use Rattle.alu.specs.declared.Mode.{Mode}
 use Rattle.alu.specs.declared.Mode.the-variants.{Byte, Word}
 use Rattle.choice.specs.Pick.{pick}
 use Rattle.choice.specs.Checks.{check, refusal, clear}
-use Rattle.choice.specs.Tells.{accepted, tells}
+use Rattle.choice.specs.Tells.{Tells, accepted, refused, tells}
 use Rattle.choice.proofs.Checks.{exactly, cleared}
 use Rattle.choice.proofs.Tells.{accepted-one, refused-one, accepted-refused, told-accepted, told-number}
 use Rattle.isa.specs.declared.Family.{Family}
@@ -134,6 +134,25 @@ module _ (n : Named) (w : ℕ) (e : encodeOf n ≡ accepted w) where
       (apart mark (namedRow n .quadrant) (n .a) (n .b) (n .c) in-range))
       ∙ sym (judge-accepted i mark (n .a) (n .b) (n .c) 0 (namedRow n) (named-own .listed) refl (sym (named-free .1)) (n .mode) (sym (mode-back (n .mode))) refl)
       ∙ ap (λ (f : Family). accepted (record { family = f; mode = n .mode; a = n .a; b = n .b; c = n .c })) (own-row (n .family) .1)
+
+-- an answer is a value, or a refusal with 7, 8 or 9
+abbrev pub Answered : {A : Type 0} → Tells A → A → Type 0
+Answered t x = (t ≡ accepted x) ⊎ ((t ≡ refused 7) ⊎ ((t ≡ refused 8) ⊎ (t ≡ refused 9)))
+
+answered : {A : Type 0} (seven eight nine : Bool) (x : A) → Answered (tells (refusal (check 7 seven ∷ check 8 eight ∷ check 9 nine ∷ [])) x) x
+answered true eight nine x = inr (inl refl)
+answered false true nine x = inr (inr (inl refl))
+answered false false true x = inr (inr (inr refl))
+answered false false false x = inl refl
+
+pub word-answered : (w : ℕ) → Answered (decodeOf w) (namedBy w)
+unfolding decodeOf
+word-answered w = answered (leb noRow (wordNumber w)) (accTwice (wordRow w) (fieldA w) (fieldB w)) (bitTooHigh (wordRow w) (markOf w) (fieldA w)) (namedBy w)
+
+pub named-answered : (n : Named) → Answered (encodeOf n) (wordFor n)
+unfolding encodeOf
+named-answered n =
+    answered (not (takes (namedRow n) (markFor (n .mode)) (n .a) (n .b) (n .c))) (accTwice (namedRow n) (n .a) (n .b)) (bitTooHigh (namedRow n) (markFor (n .mode)) (n .a)) (wordFor n)
 
 -- a number's condition, said of what is told
 exactly-told : {A : Type 0} (k j : ℕ) (x : A) {P : Type 0} → (j ≡ k) ↔ P → (tells j x .number ≡ k) ↔ P
