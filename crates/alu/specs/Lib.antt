@@ -1,1 +1,4 @@
 pub mod Width
+pub mod Flags
+pub mod Operations
+pub mod Bounds

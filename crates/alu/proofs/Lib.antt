@@ -1,0 +1,10 @@
+pub mod Fits
+pub mod Bits
+pub mod Reduced
+pub mod Written
+pub mod Unique
+pub mod Shapes
+pub mod Changes
+pub mod Carries
+pub mod Columns
+pub mod Highest
