@@ -19,7 +19,7 @@ module _ {A : Type 0} (test : A → A → Bool) (sound : (r y : A) → test r y 
       by-test true false q p u = before (omega (arith, eqb-false x n p))
       by-test false d q p u = before (omega (arith, u))
 
-  along-by : (n : ℕ) (f : ℕ → A) (x : ℕ) (r : A) → Along test n f x r → x < n → r ≡ f x
+  pub along-by : (n : ℕ) (f : ℕ → A) (x : ℕ) (r : A) → Along test n f x r → x < n → r ≡ f x
   along-by zero f x r a h = absurd (not-suc-le-zero h)
   along-by (suc n) f x r (a, u) h = last n f x r u h (along-by n f x r a)
 

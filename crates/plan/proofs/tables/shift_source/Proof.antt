@@ -1,0 +1,16 @@
+use Rattle.plan.proofs.Told.{shift-latch}
+use Rattle.plan.proofs.tables.shift_source.Statement.{statement}
+use Rattle.plan.proofs.tables.shift_source.Tie as tie
+use Rattle.plan.proofs.tables.shift_source.Reads as reads
+use Rattle.plan.proofs.tables.shift_source.Lts as lts
+
+-- src/tables.rt:324:1
+returns : tie.Need-returns
+returns c = rw (c .if1 .taken)
+
+-- src/tables.rt:324:1
+returns-2 : tie.Need-returns-2
+returns-2 c = shift-latch (c .before .args .own) (c .before .args .a) (c .if1 .left)
+
+pub shift-source-spec : {M : Type 1} → statement M
+shift-source-spec = tie.close (tie.spec returns returns-2)
