@@ -23,7 +23,7 @@ module _ {A : Type 0} (test : A → A → Bool) (sound : (r y : A) → test r y 
   along-by zero f x r a h = absurd (not-suc-le-zero h)
   along-by (suc n) f x r (a, u) h = last n f x r u h (along-by n f x r a)
 
-same-eq : (b d : Bool) → same b d ≡ true → b ≡ d
+pub same-eq : (b d : Bool) → same b d ≡ true → b ≡ d
 same-eq true true e = refl
 same-eq true false e = sym e
 same-eq false true e = e

@@ -79,6 +79,10 @@ module _ (w : ℕ) (h : w < 0x10000) (n : Named) (e : decodeOf w ≡ accepted n)
   own : Belongs (markOf w) (quadrantOf w) (fieldA w) (fieldB w) (fieldC w) (wordNumber w)
   own = row-belongs (markOf w) (quadrantOf w) (fieldA w) (fieldB w) (fieldC w) (leb-false noRow (wordNumber w) (free .0))
 
+  -- the instruction has the word's fields
+  pub decode-named : namedBy w ≡ n
+  decode-named = told .1
+
   pub encode-decode : encodeOf n ≡ accepted w
   unfolding encodeOf fillOf
   encode-decode =
@@ -112,6 +116,13 @@ module _ (n : Named) (w : ℕ) (e : encodeOf n ≡ accepted w) where
       let z = narrow (numberOf (n .family)) (own-row (n .family) .0) in
       let k = small (namedRow n) mark (n .a) (n .b) (n .c) z (named-own .fields) in
       (mark-small (n .mode), z .quadrant, k .0, k .1, k .2)
+
+  -- its family takes its mode and fields, and its rule holds
+  pub encode-takes : takes (namedRow n) mark (n .a) (n .b) (n .c) ≡ true
+  encode-takes = named-own .fields
+
+  pub encode-rule : refusal (ruleChecks (namedRow n) mark (n .a) (n .b)) ≡ 0
+  encode-rule = named-free .1
 
   pub encode-small : w < 0x10000
   encode-small = subst (λ (w : ℕ). w < 0x10000) (named-told .1) (made-small mark (namedRow n .quadrant) (n .a) (n .b) (n .c) in-range)

@@ -1,3 +1,4 @@
 pub mod Tables
 pub mod Plans
+pub mod Reading
 pub mod Numbers

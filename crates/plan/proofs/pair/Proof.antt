@@ -1,27 +1,19 @@
+-- `plan::pair` meets its contract: the field's tables are told value by value.
 use Rattle.plan.specs.Tables.{pairR, pairS}
 use Rattle.plan.proofs.Told.{told-source}
 use borrow.Author.Needs.{needs}
 use Rattle.plan.proofs.pair.Statement.{statement}
 use Rattle.plan.proofs.pair.Tie as tie
-use Rattle.plan.proofs.pair.Reads as reads
-use Rattle.plan.proofs.pair.Lts as lts
-use Rattle.plan.proofs.tables.pair_r.Reads as pair-r-reads
-use Rattle.plan.proofs.tables.pair_s.Reads as pair-s-reads
-use Rattle.plan.proofs.two.Reads as two-reads
 
--- src/lib.rt:200:9
 pair-r-requires : tie.Need-pair-r-requires
 pair-r-requires c κs = search needs
 
--- src/lib.rt:200:28
 pair-s-requires : tie.Need-pair-s-requires
 pair-s-requires c κs = search needs
 
--- src/lib.rt:200:5
 two-requires : tie.Need-two-requires
 two-requires c κs = search needs
 
--- src/lib.rt:196:1
 returns : tie.Need-returns
 returns c = rw (c .two .ensures, told-source 16 pairS (c .before .before .before .args .a) (c .before .pair-s .result) (c .before .pair-s .ensures) (c .before .before .before .pre), told-source 16 pairR (c .before .before .before .args .a) (c .before .before .pair-r .result) (c .before .before .pair-r .ensures) (c .before .before .before .pre))
 

@@ -1,32 +1,22 @@
+-- `plan::rotate_operands` meets its contract: the field's tables are told value by value.
 use Rattle.plan.specs.Tables.{rotateMask, rotateR, rotateU}
 use Rattle.plan.proofs.Told.{told-source}
 use borrow.Author.Needs.{needs}
 use Rattle.plan.proofs.rotate_operands.Statement.{statement}
 use Rattle.plan.proofs.rotate_operands.Tie as tie
-use Rattle.plan.proofs.rotate_operands.Reads as reads
-use Rattle.plan.proofs.rotate_operands.Lts as lts
-use Rattle.plan.proofs.tables.rotate_mask.Reads as rotate-mask-reads
-use Rattle.plan.proofs.tables.rotate_r.Reads as rotate-r-reads
-use Rattle.plan.proofs.tables.rotate_u.Reads as rotate-u-reads
-use Rattle.plan.proofs.three.Reads as three-reads
 
--- src/lib.rt:215:9
 rotate-u-requires : tie.Need-rotate-u-requires
 rotate-u-requires c κs = search needs
 
--- src/lib.rt:216:9
 rotate-r-requires : tie.Need-rotate-r-requires
 rotate-r-requires c κs = search needs
 
--- src/lib.rt:217:9
 rotate-mask-requires : tie.Need-rotate-mask-requires
 rotate-mask-requires c κs = search needs
 
--- src/lib.rt:214:5
 three-requires : tie.Need-three-requires
 three-requires c κs = search needs
 
--- src/lib.rt:210:1
 returns : tie.Need-returns
 returns c = rw (c .three .ensures, told-source 16 rotateMask (c .before .before .before .before .args .b) (c .before .rotate-mask .result) (c .before .rotate-mask .ensures) (c .before .before .before .before .pre), told-source 16 rotateR (c .before .before .before .before .args .b) (c .before .before .rotate-r .result) (c .before .before .rotate-r .ensures) (c .before .before .before .before .pre), told-source 16 rotateU (c .before .before .before .before .args .b) (c .before .before .before .rotate-u .result) (c .before .before .before .rotate-u .ensures) (c .before .before .before .before .pre))
 

@@ -1,22 +1,16 @@
+-- `plan::two_operand` meets its contract: the field's table is told value by value.
 use Rattle.plan.specs.Tables.{twoOperandAt}
 use Rattle.plan.proofs.Told.{told-two-operand}
 use borrow.Author.Needs.{needs}
 use Rattle.plan.proofs.two_operand.Statement.{statement}
 use Rattle.plan.proofs.two_operand.Tie as tie
-use Rattle.plan.proofs.two_operand.Reads as reads
-use Rattle.plan.proofs.two_operand.Lts as lts
-use Rattle.plan.proofs.at_width.Reads as at-width-reads
-use Rattle.plan.proofs.tables.two_operand_kind.Reads as two-operand-kind-reads
 
--- src/lib.rt:166:26
 two-operand-kind-requires : tie.Need-two-operand-kind-requires
 two-operand-kind-requires c κs = search needs
 
--- src/lib.rt:165:5
 at-width-requires : tie.Need-at-width-requires
 at-width-requires c κs = search needs
 
--- src/lib.rt:161:1
 returns : tie.Need-returns
 returns c = rw (c .at-width .ensures, told-two-operand 16 twoOperandAt (c .before .before .args .b) (c .before .two-operand-kind .result) (c .before .two-operand-kind .ensures) (c .before .before .pre))
 

@@ -1,3 +1,4 @@
+-- `plan::work_of` meets its contract: in each arm the family is the arm's, and the tables are told value by value.
 use Rattle.plan.specs.Plans.{workOf}
 use Rattle.plan.specs.Tables.{bonrAt, bonrSource, bor1At, bor2At, maskAt, noRamTo, prt1Source, prt1To, prt2To, ramPairTo, rotateU, rotnrSource, rotnrTo, rotr1To, sorTo, sourceAt, statusBitsAt}
 use Rattle.choice.proofs.Decisions.{along}
@@ -5,512 +6,366 @@ use Rattle.plan.proofs.Told.{told-bit, told-destination, told-source}
 use borrow.Author.Needs.{needs}
 use Rattle.plan.proofs.work_of.Statement.{statement}
 use Rattle.plan.proofs.work_of.Tie as tie
-use Rattle.plan.proofs.work_of.Reads as reads
-use Rattle.plan.proofs.work_of.Lts as lts
-use Rattle.plan.proofs.at_width.Reads as at-width-reads
-use Rattle.plan.proofs.bit.Reads as bit-reads
-use Rattle.plan.proofs.check_step.Reads as check-step-reads
-use Rattle.plan.proofs.idle.Reads as idle-reads
-use Rattle.plan.proofs.merge.Reads as merge-reads
-use Rattle.plan.proofs.one_operand.Reads as one-operand-reads
-use Rattle.plan.proofs.pair.Reads as pair-reads
-use Rattle.plan.proofs.prioritize.Reads as prioritize-reads
-use Rattle.plan.proofs.ram_pair.Reads as ram-pair-reads
-use Rattle.plan.proofs.rotate.Reads as rotate-reads
-use Rattle.plan.proofs.rotate_operands.Reads as rotate-operands-reads
-use Rattle.plan.proofs.shift.Reads as shift-reads
-use Rattle.plan.proofs.status_work.Reads as status-work-reads
-use Rattle.plan.proofs.tables.bonr_kind.Reads as bonr-kind-reads
-use Rattle.plan.proofs.tables.bonr_source.Reads as bonr-source-reads
-use Rattle.plan.proofs.tables.bor1_kind.Reads as bor1-kind-reads
-use Rattle.plan.proofs.tables.bor2_kind.Reads as bor2-kind-reads
-use Rattle.plan.proofs.tables.mask_source.Reads as mask-source-reads
-use Rattle.plan.proofs.tables.no_ram_to.Reads as no-ram-to-reads
-use Rattle.plan.proofs.tables.prt1_source.Reads as prt1-source-reads
-use Rattle.plan.proofs.tables.prt1_to.Reads as prt1-to-reads
-use Rattle.plan.proofs.tables.prt2_to.Reads as prt2-to-reads
-use Rattle.plan.proofs.tables.ram_pair_to.Reads as ram-pair-to-reads
-use Rattle.plan.proofs.tables.rotate_u.Reads as rotate-u-reads
-use Rattle.plan.proofs.tables.rotnr_source.Reads as rotnr-source-reads
-use Rattle.plan.proofs.tables.rotnr_to.Reads as rotnr-to-reads
-use Rattle.plan.proofs.tables.rotr1_to.Reads as rotr1-to-reads
-use Rattle.plan.proofs.tables.shift_source.Reads as shift-source-reads
-use Rattle.plan.proofs.tables.sor_to.Reads as sor-to-reads
-use Rattle.plan.proofs.tables.source_at.Reads as source-at-reads
-use Rattle.plan.proofs.tables.status_bits.Reads as status-bits-reads
-use Rattle.plan.proofs.two_operand.Reads as two-operand-reads
 
--- src/lib.rt:261:40
 enum-told : tie.Need-enum-told
 enum-told c = search needs
 
--- src/lib.rt:261:40
 ram-pair-requires : tie.Need-ram-pair-requires
 ram-pair-requires c κs = search needs
 
--- src/lib.rt:261:53
 ram-pair-to-requires : tie.Need-ram-pair-to-requires
 ram-pair-to-requires c κs = search needs
 
--- src/lib.rt:261:25
 two-operand-requires : tie.Need-two-operand-requires
 two-operand-requires c κs = search needs
 
--- src/lib.rt:262:33
 enum-told-2 : tie.Need-enum-told-2
 enum-told-2 c = search needs
 
--- src/lib.rt:262:46
 rotr1-to-requires : tie.Need-rotr1-to-requires
 rotr1-to-requires c κs = search needs
 
--- src/lib.rt:262:26
 rotate-requires : tie.Need-rotate-requires
 rotate-requires c κs = search needs
 
--- src/lib.rt:263:33
 enum-told-3 : tie.Need-enum-told-3
 enum-told-3 c = search needs
 
--- src/lib.rt:263:33
 rotate-u-requires : tie.Need-rotate-u-requires
 rotate-u-requires c κs = search needs
 
--- src/lib.rt:263:26
 rotate-requires-2 : tie.Need-rotate-requires-2
 rotate-requires-2 c κs = search needs
 
--- src/lib.rt:264:34
 enum-told-4 : tie.Need-enum-told-4
 enum-told-4 c = search needs
 
--- src/lib.rt:264:49
 rotate-operands-requires : tie.Need-rotate-operands-requires
 rotate-operands-requires c κs = search needs
 
--- src/lib.rt:264:25
 at-width-requires : tie.Need-at-width-requires
 at-width-requires c κs = search needs
 
--- src/lib.rt:265:25
 enum-told-5 : tie.Need-enum-told-5
 enum-told-5 c = search needs
 
--- src/lib.rt:265:25
 merge-requires : tie.Need-merge-requires
 merge-requires c κs = search needs
 
--- src/lib.rt:266:42
 enum-told-6 : tie.Need-enum-told-6
 enum-told-6 c = search needs
 
--- src/lib.rt:266:42
 sor-to-requires : tie.Need-sor-to-requires
 sor-to-requires c κs = search needs
 
--- src/lib.rt:266:24
 one-operand-requires : tie.Need-one-operand-requires
 one-operand-requires c κs = search needs
 
--- src/lib.rt:267:29
 enum-told-7 : tie.Need-enum-told-7
 enum-told-7 c = search needs
 
--- src/lib.rt:267:29
 bor2-kind-requires : tie.Need-bor2-kind-requires
 bor2-kind-requires c κs = search needs
 
--- src/lib.rt:267:25
 bit-requires : tie.Need-bit-requires
 bit-requires c κs = search needs
 
--- src/lib.rt:268:40
 enum-told-8 : tie.Need-enum-told-8
 enum-told-8 c = search needs
 
--- src/lib.rt:268:40
 pair-requires : tie.Need-pair-requires
 pair-requires c κs = search needs
 
--- src/lib.rt:268:25
 two-operand-requires-2 : tie.Need-two-operand-requires-2
 two-operand-requires-2 c κs = search needs
 
--- src/lib.rt:269:56
 enum-told-9 : tie.Need-enum-told-9
 enum-told-9 c = search needs
 
--- src/lib.rt:269:35
 shift-source-requires : tie.Need-shift-source-requires
 shift-source-requires c κs = search needs
 
--- src/lib.rt:269:26
 shift-requires : tie.Need-shift-requires
 shift-requires c κs = search needs
 
--- src/lib.rt:270:36
 enum-told-10 : tie.Need-enum-told-10
 enum-told-10 c = search needs
 
--- src/lib.rt:270:25
 check-step-requires : tie.Need-check-step-requires
 check-step-requires c κs = search needs
 
--- src/lib.rt:271:36
 enum-told-11 : tie.Need-enum-told-11
 enum-told-11 c = search needs
 
--- src/lib.rt:271:25
 check-step-requires-2 : tie.Need-check-step-requires-2
 check-step-requires-2 c κs = search needs
 
--- src/lib.rt:272:36
 enum-told-12 : tie.Need-enum-told-12
 enum-told-12 c = search needs
 
--- src/lib.rt:272:36
 prt1-source-requires : tie.Need-prt1-source-requires
 prt1-source-requires c κs = search needs
 
--- src/lib.rt:272:73
 prt1-to-requires : tie.Need-prt1-to-requires
 prt1-to-requires c κs = search needs
 
--- src/lib.rt:272:25
 prioritize-requires : tie.Need-prioritize-requires
 prioritize-requires c κs = search needs
 
--- src/lib.rt:273:36
 enum-told-13 : tie.Need-enum-told-13
 enum-told-13 c = search needs
 
--- src/lib.rt:273:49
 mask-source-requires : tie.Need-mask-source-requires
 mask-source-requires c κs = search needs
 
--- src/lib.rt:273:73
 prt2-to-requires : tie.Need-prt2-to-requires
 prt2-to-requires c κs = search needs
 
--- src/lib.rt:273:25
 prioritize-requires-2 : tie.Need-prioritize-requires-2
 prioritize-requires-2 c κs = search needs
 
--- src/lib.rt:275:13
 enum-told-14 : tie.Need-enum-told-14
 enum-told-14 c = search needs
 
--- src/lib.rt:275:13
 source-at-requires : tie.Need-source-at-requires
 source-at-requires c κs = search needs
 
--- src/lib.rt:276:13
 mask-source-requires-2 : tie.Need-mask-source-requires-2
 mask-source-requires-2 c κs = search needs
 
--- src/lib.rt:274:25
 prioritize-requires-3 : tie.Need-prioritize-requires-3
 prioritize-requires-3 c κs = search needs
 
--- src/lib.rt:279:38
 enum-told-15 : tie.Need-enum-told-15
 enum-told-15 c = search needs
 
--- src/lib.rt:279:26
 status-work-requires : tie.Need-status-work-requires
 status-work-requires c κs = search needs
 
--- src/lib.rt:280:43
 enum-told-16 : tie.Need-enum-told-16
 enum-told-16 c = search needs
 
--- src/lib.rt:280:43
 no-ram-to-requires : tie.Need-no-ram-to-requires
 no-ram-to-requires c κs = search needs
 
--- src/lib.rt:280:25
 one-operand-requires-2 : tie.Need-one-operand-requires-2
 one-operand-requires-2 c κs = search needs
 
--- src/lib.rt:281:40
 enum-told-17 : tie.Need-enum-told-17
 enum-told-17 c = search needs
 
--- src/lib.rt:281:40
 pair-requires-2 : tie.Need-pair-requires-2
 pair-requires-2 c κs = search needs
 
--- src/lib.rt:281:49
 no-ram-to-requires-2 : tie.Need-no-ram-to-requires-2
 no-ram-to-requires-2 c κs = search needs
 
--- src/lib.rt:281:25
 two-operand-requires-3 : tie.Need-two-operand-requires-3
 two-operand-requires-3 c κs = search needs
 
--- src/lib.rt:284:34
 enum-told-18 : tie.Need-enum-told-18
 enum-told-18 c = search needs
 
--- src/lib.rt:284:13
 shift-source-requires-2 : tie.Need-shift-source-requires-2
 shift-source-requires-2 c κs = search needs
 
--- src/lib.rt:285:13
 no-ram-to-requires-3 : tie.Need-no-ram-to-requires-3
 no-ram-to-requires-3 c κs = search needs
 
--- src/lib.rt:282:27
 shift-requires-2 : tie.Need-shift-requires-2
 shift-requires-2 c κs = search needs
 
--- src/lib.rt:287:29
 enum-told-19 : tie.Need-enum-told-19
 enum-told-19 c = search needs
 
--- src/lib.rt:287:29
 bor1-kind-requires : tie.Need-bor1-kind-requires
 bor1-kind-requires c κs = search needs
 
--- src/lib.rt:287:25
 bit-requires-2 : tie.Need-bit-requires-2
 bit-requires-2 c κs = search needs
 
--- src/lib.rt:288:29
 enum-told-20 : tie.Need-enum-told-20
 enum-told-20 c = search needs
 
--- src/lib.rt:288:29
 bonr-kind-requires : tie.Need-bonr-kind-requires
 bonr-kind-requires c κs = search needs
 
--- src/lib.rt:288:51
 bonr-source-requires : tie.Need-bonr-source-requires
 bonr-source-requires c κs = search needs
 
--- src/lib.rt:288:25
 bit-requires-3 : tie.Need-bit-requires-3
 bit-requires-3 c κs = search needs
 
--- src/lib.rt:289:33
 enum-told-21 : tie.Need-enum-told-21
 enum-told-21 c = search needs
 
--- src/lib.rt:289:33
 rotnr-source-requires : tie.Need-rotnr-source-requires
 rotnr-source-requires c κs = search needs
 
--- src/lib.rt:289:58
 rotnr-to-requires : tie.Need-rotnr-to-requires
 rotnr-to-requires c κs = search needs
 
--- src/lib.rt:289:26
 rotate-requires-3 : tie.Need-rotate-requires-3
 rotate-requires-3 c κs = search needs
 
--- src/lib.rt:291:13
 enum-told-22 : tie.Need-enum-told-22
 enum-told-22 c = search needs
 
--- src/lib.rt:291:13
 source-at-requires-2 : tie.Need-source-at-requires-2
 source-at-requires-2 c κs = search needs
 
--- src/lib.rt:292:13
 mask-source-requires-3 : tie.Need-mask-source-requires-3
 mask-source-requires-3 c κs = search needs
 
--- src/lib.rt:293:13
 no-ram-to-requires-4 : tie.Need-no-ram-to-requires-4
 no-ram-to-requires-4 c κs = search needs
 
--- src/lib.rt:290:26
 prioritize-requires-4 : tie.Need-prioritize-requires-4
 prioritize-requires-4 c κs = search needs
 
--- src/lib.rt:295:39
 enum-told-23 : tie.Need-enum-told-23
 enum-told-23 c = search needs
 
--- src/lib.rt:295:57
 no-ram-to-requires-5 : tie.Need-no-ram-to-requires-5
 no-ram-to-requires-5 c κs = search needs
 
--- src/lib.rt:295:27
 status-work-requires-2 : tie.Need-status-work-requires-2
 status-work-requires-2 c κs = search needs
 
--- src/lib.rt:296:54
 enum-told-24 : tie.Need-enum-told-24
 enum-told-24 c = search needs
 
--- src/lib.rt:296:54
 status-bits-requires : tie.Need-status-bits-requires
 status-bits-requires c κs = search needs
 
--- src/lib.rt:296:26
 status-work-requires-3 : tie.Need-status-work-requires-3
 status-work-requires-3 c κs = search needs
 
--- src/lib.rt:297:56
 enum-told-25 : tie.Need-enum-told-25
 enum-told-25 c = search needs
 
--- src/lib.rt:297:56
 status-bits-requires-2 : tie.Need-status-bits-requires-2
 status-bits-requires-2 c κs = search needs
 
--- src/lib.rt:297:26
 status-work-requires-4 : tie.Need-status-work-requires-4
 status-work-requires-4 c κs = search needs
 
--- src/lib.rt:298:30
 enum-told-26 : tie.Need-enum-told-26
 enum-told-26 c = search needs
 
--- src/lib.rt:298:25
 idle-requires : tie.Need-idle-requires
 idle-requires c κs = search needs
 
--- src/lib.rt:299:30
 enum-told-27 : tie.Need-enum-told-27
 enum-told-27 c = search needs
 
--- src/lib.rt:299:25
 idle-requires-2 : tie.Need-idle-requires-2
 idle-requires-2 c κs = search needs
 
--- src/lib.rt:256:1
 returns : tie.Need-returns
 unfolding workOf
 returns c = rw (c .before .before .before .enum-told .given .1, c .two-operand .ensures, told-destination 16 ramPairTo (c .before .before .before .before .before .args .a) (c .before .ram-pair-to .result) (c .before .ram-pair-to .ensures) (c .before .before .before .before .before .pre .0), c .before .before .ram-pair .ensures)
 
--- src/lib.rt:256:1
 returns-2 : tie.Need-returns-2
 unfolding workOf
 returns-2 c = rw (c .before .before .enum-told2 .given .1, c .rotate .ensures, told-destination 16 rotr1To (c .before .before .before .before .args .b) (c .before .rotr1-to .result) (c .before .rotr1-to .ensures) (c .before .before .before .before .pre .1))
 
--- src/lib.rt:256:1
 returns-3 : tie.Need-returns-3
 unfolding workOf
 returns-3 c = rw (c .before .before .enum-told3 .given .1, c .rotate2 .ensures, told-source 16 rotateU (c .before .before .before .before .args .b) (c .before .rotate-u .result) (c .before .rotate-u .ensures) (c .before .before .before .before .pre .1))
 
--- src/lib.rt:256:1
 returns-4 : tie.Need-returns-4
 unfolding workOf
 returns-4 c = rw (c .before .before .enum-told4 .given .1, c .at-width .ensures, c .before .rotate-operands .ensures)
 
--- src/lib.rt:256:1
 returns-5 : tie.Need-returns-5
 unfolding workOf
 returns-5 c = rw (c .before .enum-told5 .given .1, c .merge .ensures)
 
--- src/lib.rt:256:1
 returns-6 : tie.Need-returns-6
 unfolding workOf
 returns-6 c = rw (c .before .before .enum-told6 .given .1, c .one-operand .ensures, told-destination 16 sorTo (c .before .before .before .before .args .b) (c .before .sor-to .result) (c .before .sor-to .ensures) (c .before .before .before .before .pre .1))
 
--- src/lib.rt:256:1
 returns-7 : tie.Need-returns-7
 unfolding workOf
 returns-7 c = rw (c .before .before .enum-told7 .given .1, c .bit .ensures, told-bit 16 bor2At (c .before .before .before .before .args .b) (c .before .bor2-kind .result) (c .before .bor2-kind .ensures) (c .before .before .before .before .pre .1))
 
--- src/lib.rt:256:1
 returns-8 : tie.Need-returns-8
 unfolding workOf
 returns-8 c = rw (c .before .before .enum-told8 .given .1, c .two-operand2 .ensures, c .before .pair .ensures)
 
--- src/lib.rt:256:1
 returns-9 : tie.Need-returns-9
 unfolding workOf
 returns-9 c = rw (c .before .before .enum-told9 .given .1, c .shift .ensures, c .before .shift-source .ensures)
 
--- src/lib.rt:256:1
 returns-10 : tie.Need-returns-10
 unfolding workOf
 returns-10 c = rw (c .before .enum-told10 .given .1, c .check-step .ensures)
 
--- src/lib.rt:256:1
 returns-11 : tie.Need-returns-11
 unfolding workOf
 returns-11 c = rw (c .before .enum-told11 .given .1, c .check-step2 .ensures)
 
--- src/lib.rt:256:1
 returns-12 : tie.Need-returns-12
 unfolding workOf
 returns-12 c = rw (c .before .before .before .enum-told12 .given .1, c .prioritize .ensures, told-destination 16 prt1To (c .before .before .before .before .before .args .a) (c .before .prt1-to .result) (c .before .prt1-to .ensures) (c .before .before .before .before .before .pre .0), told-source 16 prt1Source (c .before .before .before .before .before .args .b) (c .before .before .prt1-source .result) (c .before .before .prt1-source .ensures) (c .before .before .before .before .before .pre .1))
 
--- src/lib.rt:256:1
 returns-13 : tie.Need-returns-13
 unfolding workOf
 returns-13 c = rw (c .before .before .before .enum-told13 .given .1, c .prioritize2 .ensures, told-destination 16 prt2To (c .before .before .before .before .before .args .b) (c .before .prt2-to .result) (c .before .prt2-to .ensures) (c .before .before .before .before .before .pre .1), told-source 16 maskAt (c .before .before .before .before .before .args .a) (c .before .before .mask-source .result) (c .before .before .mask-source .ensures) (c .before .before .before .before .before .pre .0))
 
--- src/lib.rt:256:1
 returns-14 : tie.Need-returns-14
 unfolding workOf
 returns-14 c = rw (c .before .before .before .enum-told14 .given .1, c .prioritize3 .ensures, told-source 16 maskAt (c .before .before .before .before .before .args .a) (c .before .mask-source2 .result) (c .before .mask-source2 .ensures) (c .before .before .before .before .before .pre .0), told-source 16 sourceAt (c .before .before .before .before .before .args .b) (c .before .before .source-at .result) (c .before .before .source-at .ensures) (c .before .before .before .before .before .pre .1))
 
--- src/lib.rt:256:1
 returns-15 : tie.Need-returns-15
 unfolding workOf
 returns-15 c = rw (c .before .enum-told15 .given .1, c .status-work .ensures)
 
--- src/lib.rt:256:1
 returns-16 : tie.Need-returns-16
 unfolding workOf
 returns-16 c = rw (c .before .before .enum-told16 .given .1, c .one-operand2 .ensures, told-destination 32 noRamTo (c .before .before .before .before .args .c) (c .before .no-ram-to .result) (c .before .no-ram-to .ensures) (c .before .before .before .before .pre .2))
 
--- src/lib.rt:256:1
 returns-17 : tie.Need-returns-17
 unfolding workOf
 returns-17 c = rw (c .before .before .before .enum-told17 .given .1, c .two-operand3 .ensures, told-destination 32 noRamTo (c .before .before .before .before .before .args .c) (c .before .no-ram-to2 .result) (c .before .no-ram-to2 .ensures) (c .before .before .before .before .before .pre .2), c .before .before .pair2 .ensures)
 
--- src/lib.rt:256:1
 returns-18 : tie.Need-returns-18
 unfolding workOf
 returns-18 c = rw (c .before .before .before .enum-told18 .given .1, c .shift2 .ensures, told-destination 32 noRamTo (c .before .before .before .before .before .args .c) (c .before .no-ram-to3 .result) (c .before .no-ram-to3 .ensures) (c .before .before .before .before .before .pre .2), c .before .before .shift-source2 .ensures)
 
--- src/lib.rt:256:1
 returns-19 : tie.Need-returns-19
 unfolding workOf
 returns-19 c = rw (c .before .before .enum-told19 .given .1, c .bit2 .ensures, told-bit 16 bor1At (c .before .before .before .before .args .b) (c .before .bor1-kind .result) (c .before .bor1-kind .ensures) (c .before .before .before .before .pre .1))
 
--- src/lib.rt:256:1
 returns-20 : tie.Need-returns-20
 unfolding workOf
 returns-20 c = rw (c .before .before .before .enum-told20 .given .1, c .bit3 .ensures, told-source 32 bonrSource (c .before .before .before .before .before .args .c) (c .before .bonr-source .result) (c .before .bonr-source .ensures) (c .before .before .before .before .before .pre .2), told-bit 32 bonrAt (c .before .before .before .before .before .args .c) (c .before .before .bonr-kind .result) (c .before .before .bonr-kind .ensures) (c .before .before .before .before .before .pre .2))
 
--- src/lib.rt:256:1
 returns-21 : tie.Need-returns-21
 unfolding workOf
 returns-21 c = rw (c .before .before .before .enum-told21 .given .1, c .rotate3 .ensures, told-destination 32 rotnrTo (c .before .before .before .before .before .args .c) (c .before .rotnr-to .result) (c .before .rotnr-to .ensures) (c .before .before .before .before .before .pre .2), told-source 32 rotnrSource (c .before .before .before .before .before .args .c) (c .before .before .rotnr-source .result) (c .before .before .rotnr-source .ensures) (c .before .before .before .before .before .pre .2))
 
--- src/lib.rt:256:1
 returns-22 : tie.Need-returns-22
 unfolding workOf
 returns-22 c = rw (c .before .before .before .before .enum-told22 .given .1, c .prioritize4 .ensures, told-destination 32 noRamTo (c .before .before .before .before .before .before .args .c) (c .before .no-ram-to4 .result) (c .before .no-ram-to4 .ensures) (c .before .before .before .before .before .before .pre .2), told-source 16 maskAt (c .before .before .before .before .before .before .args .a) (c .before .before .mask-source3 .result) (c .before .before .mask-source3 .ensures) (c .before .before .before .before .before .before .pre .0), told-source 16 sourceAt (c .before .before .before .before .before .before .args .b) (c .before .before .before .source-at2 .result) (c .before .before .before .source-at2 .ensures) (c .before .before .before .before .before .before .pre .1))
 
--- src/lib.rt:256:1
 returns-23 : tie.Need-returns-23
 unfolding workOf
 returns-23 c = rw (c .before .before .enum-told23 .given .1, c .status-work2 .ensures, told-destination 32 noRamTo (c .before .before .before .before .args .c) (c .before .no-ram-to5 .result) (c .before .no-ram-to5 .ensures) (c .before .before .before .before .pre .2))
 
--- src/lib.rt:256:1
 returns-24 : tie.Need-returns-24
 unfolding workOf
 returns-24 c = rw (c .before .before .enum-told24 .given .1, c .status-work3 .ensures, along 32 statusBitsAt (c .before .before .before .before .args .c) (c .before .status-bits .result) (c .before .status-bits .ensures) (c .before .before .before .before .pre .2))
 
--- src/lib.rt:256:1
 returns-25 : tie.Need-returns-25
 unfolding workOf
 returns-25 c = rw (c .before .before .enum-told25 .given .1, c .status-work4 .ensures, along 32 statusBitsAt (c .before .before .before .before .args .c) (c .before .status-bits2 .result) (c .before .status-bits2 .ensures) (c .before .before .before .before .pre .2))
 
--- src/lib.rt:256:1
 returns-26 : tie.Need-returns-26
 unfolding workOf
 returns-26 c = rw (c .before .enum-told26 .given .1, c .idle .ensures)
 
--- src/lib.rt:256:1
 returns-27 : tie.Need-returns-27
 unfolding workOf
 returns-27 c = rw (c .before .enum-told27 .given .1, c .idle2 .ensures)
