@@ -5,7 +5,7 @@ use mathlib.Core.List.{List, _∷_}
 use mathlib.Core.Option.{Option·some-injective, Option·some-ne-none}
 use Prim.Native.Nat.{ℕ}
 use lib.Dec.{eqb}
-use borrow.Author.Tests.{eqb-true, eq-eqb, ne-eqb}
+use borrow.Author.Tests.{eqb-true, eqb-false, eq-eqb, ne-eqb}
 use Rattle.choice.specs.Pick.{pick}
 use Rattle.choice.specs.Checks.{Check, check, refusal}
 use Rattle.choice.specs.Tells.{Tells, accepted, refused, tells}
@@ -50,3 +50,10 @@ module _ {A : Type 0} where
       by-test : (b : Bool) → eqb k 0 ≡ b → pick b (accepted x) (refused k) .number ≡ k
       by-test true q = sym (eqb-true k 0 q)
       by-test false q = refl
+
+  pub told-refused : (k j : ℕ) (x : A) → tells k x ≡ refused j → (k ≡ j) × (k ≡ 0 → ⊥)
+  told-refused k j x e = by-test (eqb k 0) refl e
+    where
+      by-test : (b : Bool) → eqb k 0 ≡ b → pick b (accepted x) (refused k) ≡ refused j → (k ≡ j) × (k ≡ 0 → ⊥)
+      by-test true q e = absurd (accepted-refused x j e)
+      by-test false q e = (refused-one k j e, eqb-false k 0 q)

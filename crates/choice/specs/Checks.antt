@@ -4,7 +4,7 @@ use mathlib.Core.Bool.{Bool, true, false}
 use mathlib.Core.List.{List, [], _∷_}
 use lib.Dec.{eqb}
 
--- a number of document 01's table of refusals, never 0, and whether its condition holds
+-- a number of document 01's table of refusals, not 0 where its condition holds, and whether it does
 pub record Check : Type 0 where
   pub number : ℕ
   pub holds : Bool

@@ -14,6 +14,7 @@ ghost use mathlib.Core.Path.{_≡_};
 ghost use Prim.Native.Nat.{_<_};
 ghost use Rattle.plan.specs.Tables.{twoOperandAt, oneOperandAt, shiftAt, sourceAt, pairR, pairS, ramPairR, ramPairS, rotateU, rotateR, rotateMask, back};
 ghost use Rattle.plan.specs.Plans.{one as specs·one, two as specs·two, masked as specs·masked, three as specs·three, atWidth, whole as specs·whole, idle as specs·idle, bitWork, workOf, planOf};
+ghost use Rattle.plan.specs.Reading.{isImmediate, namesI};
 
 // What is done. Set and reset status name the status bits that they change.
 pub enum Task {
@@ -315,4 +316,35 @@ pub fn plan_for(named: Named) -> Plan
         register: c,
         work: work,
     }
+}
+
+fn is_immediate(source: Source) -> bool
+    ensures { λ r. ⌜ r ≡ isImmediate source ⌝ }
+{
+    match source {
+        Source::Zero => false,
+        Source::Ram => false,
+        Source::Acc => false,
+        Source::Latch => false,
+        Source::Immediate => true,
+        Source::LatchZeroExtended => false,
+        Source::LatchSignExtended => false,
+    }
+}
+
+// Whether some operand is I.
+pub fn names_immediate(work: Work) -> bool
+    ensures { λ r. ⌜ r ≡ namesI work ⌝ }
+{
+    let operands = work.operands;
+    let first = operands.first;
+    let second = operands.second;
+    let mask = operands.mask;
+    if is_immediate(first) {
+        return true;
+    }
+    if is_immediate(second) {
+        return true;
+    }
+    is_immediate(mask)
 }

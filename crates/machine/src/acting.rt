@@ -1,0 +1,195 @@
+// What an instruction does with what it sees.
+use crate::Effect;
+use crate::View;
+use crate::seeing::operand;
+use alu::Mode;
+use alu::Operation;
+use alu::Outcome;
+use plan::Destination;
+use plan::Plan;
+use plan::Shown;
+use plan::Task;
+ghost use mathlib.Core.Path.{_≡_};
+ghost use Rattle.machine.specs.Acting.{outcomeFor, busOf, widthMask, maskOf, takenStatus, statusFor, performedOf, effectBy, effectOf};
+
+// All ones at the width.
+fn width_mask(mode: Mode) -> u16
+    ensures { λ r. ⌜ r ≡ widthMask mode ⌝ }
+{
+    match mode {
+        Mode::Byte => 0x00FF,
+        Mode::Word => 0xFFFF,
+    }
+}
+
+// The operation on its operands: x, y and the mask, each as the task has it.
+fn outcome_for(task: Task, mode: Mode, n: u8, x: u16, y: u16, mask: u16, status: u8) -> Outcome
+    ensures { λ o. ⌜ o ≡ outcomeFor task mode n x y mask status ⌝ }
+{
+    match task {
+        Task::NoOperation => Outcome { result: 0, status },
+        Task::TwoOperand(kind) => alu::perform(
+            mode,
+            Operation::TwoOperand { kind, r: x, s: y },
+            status,
+        ),
+        Task::OneOperand(kind) => alu::perform(
+            mode,
+            Operation::OneOperand { kind, source: x },
+            status,
+        ),
+        Task::Bit(kind) => alu::perform(mode, Operation::Bit { kind, n, source: x }, status),
+        Task::Shift(kind) => alu::perform(mode, Operation::Shift { kind, source: x }, status),
+        Task::Rotate => alu::perform(mode, Operation::Rotate { n, source: x }, status),
+        Task::Merge => alu::perform(
+            mode,
+            Operation::Merge {
+                n,
+                u: x,
+                r: y,
+                mask,
+            },
+            status,
+        ),
+        Task::Compare => alu::perform(
+            mode,
+            Operation::Compare {
+                n,
+                u: x,
+                r: y,
+                mask,
+            },
+            status,
+        ),
+        Task::Prioritize => alu::perform(mode, Operation::Prioritize { source: x, mask }, status),
+        Task::CrcForward => alu::perform(
+            mode,
+            Operation::CrcForward {
+                register: x,
+                acc: y,
+            },
+            status,
+        ),
+        Task::CrcReverse => alu::perform(
+            mode,
+            Operation::CrcReverse {
+                register: x,
+                acc: y,
+            },
+            status,
+        ),
+        Task::SaveStatus => Outcome {
+            result: status as u16,
+            status,
+        },
+        Task::SetStatus(bits) => Outcome {
+            result: width_mask(mode),
+            status: status | bits,
+        },
+        Task::ResetStatus(bits) => Outcome {
+            result: 0,
+            status: status & (255 - bits),
+        },
+        Task::TestStatus => Outcome { result: 0, status },
+    }
+}
+
+// What the bus shows of a result.
+fn bus_of(task: Task, result: u16) -> u16
+    ensures { λ r. ⌜ r ≡ busOf task result ⌝ }
+{
+    match task {
+        Task::NoOperation => result,
+        Task::TwoOperand(_) => result,
+        Task::OneOperand(_) => result,
+        Task::Bit(_) => result,
+        Task::Shift(_) => result,
+        Task::Rotate => result,
+        Task::Merge => result,
+        Task::Compare => result,
+        Task::Prioritize => result,
+        Task::CrcForward => result,
+        Task::CrcReverse => result,
+        Task::SaveStatus => result,
+        Task::SetStatus(_) => 0xFFFF,
+        Task::ResetStatus(_) => result,
+        Task::TestStatus => result,
+    }
+}
+
+// The known bits of Y.
+fn mask_of(shown: Shown, mode: Mode) -> u16
+    ensures { λ r. ⌜ r ≡ maskOf shown mode ⌝ }
+{
+    match shown {
+        Shown::AtWidth => width_mask(mode),
+        Shown::Whole => 0xFFFF,
+        Shown::Nothing => 0,
+    }
+}
+
+// Status as a destination.
+fn taken_status(mode: Mode, y: u16, old: u8) -> u8
+    ensures { λ r. ⌜ r ≡ takenStatus mode y old ⌝ }
+{
+    match mode {
+        Mode::Byte => old / 16 * 16 + (y % 16) as u8,
+        Mode::Word => (y % 256) as u8,
+    }
+}
+
+fn status_for(destination: Destination, mode: Mode, outcome: Outcome, old: u8) -> u8
+    ensures { λ r. ⌜ r ≡ statusFor destination mode outcome old ⌝ }
+{
+    match destination {
+        Destination::ToY => outcome.status,
+        Destination::ToAcc => outcome.status,
+        Destination::ToRam => outcome.status,
+        Destination::ToStatus => taken_status(mode, outcome.result, old),
+        Destination::ToAccAndStatus => taken_status(mode, outcome.result, old),
+    }
+}
+
+fn performed(plan: Plan, view: View) -> Outcome
+    ensures { λ o. ⌜ o ≡ performedOf plan view ⌝ }
+{
+    let mode = plan.mode;
+    let work = plan.work;
+    let task = work.task;
+    let operands = work.operands;
+    let first = operands.first;
+    let second = operands.second;
+    let mask = operands.mask;
+    outcome_for(
+        task,
+        mode,
+        plan.n,
+        operand(first, view),
+        operand(second, view),
+        operand(mask, view),
+        view.status,
+    )
+}
+
+fn effect_by(plan: Plan, outcome: Outcome, old: u8) -> Effect
+    ensures { λ e. ⌜ e ≡ effectBy plan outcome old ⌝ }
+{
+    let mode = plan.mode;
+    let work = plan.work;
+    let task = work.task;
+    let shown = work.shown;
+    let destination = work.destination;
+    Effect {
+        result: outcome.result,
+        shown: bus_of(task, outcome.result),
+        mask: mask_of(shown, mode),
+        status: status_for(destination, mode, outcome, old),
+        destination: destination,
+    }
+}
+
+pub fn acted(plan: Plan, view: View) -> Effect
+    ensures { λ e. ⌜ e ≡ effectOf plan view ⌝ }
+{
+    effect_by(plan, performed(plan, view), view.status)
+}
