@@ -250,6 +250,9 @@ module _ (w : ℕ) (h : w < 0x10000) (n : Named) (e : decodeOf w ≡ accepted n)
   unfolding planOf
   word-mode = sym (ap (λ (n : Named). n .mode) (decode-named w h n e))
 
--- no two outcomes satisfy the statement of the call
+-- no two outcomes satisfy the statement of a call
 pub plan-for-unique : (n : Named) (p q : Plan) → p ≡ planOf n → q ≡ planOf n → p ≡ q
 plan-for-unique n p q x y = x ∙ sym y
+
+pub names-immediate-unique : (w : Work) (r s : Bool) → r ≡ namesI w → s ≡ namesI w → r ≡ s
+names-immediate-unique w r s p q = p ∙ sym q

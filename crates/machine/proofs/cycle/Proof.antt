@@ -1,58 +1,41 @@
+-- `machine::cycle` meets its contract: each judgement has its turn.
 use Rattle.machine.specs.Cycles.{cycleOf}
 use borrow.Author.Needs.{needs}
 use Rattle.machine.proofs.cycle.Statement.{statement}
 use Rattle.machine.proofs.cycle.Tie as tie
-use Rattle.machine.proofs.cycle.Reads as reads
-use Rattle.machine.proofs.cycle.Lts as lts
-use Rattle.machine.proofs.judging.judge.Reads as judge-reads
-use Rattle.machine.proofs.performs.Reads as performs-reads
-use Rattle.machine.proofs.refused.Reads as refused-reads
-use Rattle.machine.proofs.settling.latched.Reads as latched-reads
-use Rattle.machine.proofs.waits.Reads as waits-reads
 
--- src/lib.rt:181:9
 latched-requires : tie.Need-latched-requires
 latched-requires c κs = search needs
 
--- src/lib.rt:182:11
 judge-requires : tie.Need-judge-requires
 judge-requires c κs = search needs
 
--- src/lib.rt:183:27
 enum-known-number : tie.Need-enum-known-number
 enum-known-number c = search needs
 
--- src/lib.rt:183:38
 refused-requires : tie.Need-refused-requires
 refused-requires c κs = search needs
 
--- src/lib.rt:184:28
 enum-told : tie.Need-enum-told
 enum-told c = search needs
 
--- src/lib.rt:184:28
 waits-requires : tie.Need-waits-requires
 waits-requires c κs = search needs
 
--- src/lib.rt:185:28
 enum-known-named : tie.Need-enum-known-named
 enum-known-named c = search needs
 
--- src/lib.rt:185:55
 performs-requires : tie.Need-performs-requires
 performs-requires c κs = search needs
 
--- src/lib.rt:176:1
 returns : tie.Need-returns
 unfolding cycleOf
 returns c = rw (← c .before .before .before .before .judge .ensures, c .before .before .number .given .1, c .refused .ensures)
 
--- src/lib.rt:176:1
 returns-2 : tie.Need-returns-2
 unfolding cycleOf
 returns-2 c = rw (← c .before .before .before .judge .ensures, c .before .enum-told .given .1, c .waits .ensures, c .before .before .before .before .latched .ensures)
 
--- src/lib.rt:176:1
 returns-3 : tie.Need-returns-3
 unfolding cycleOf
 returns-3 c = rw (← c .before .before .before .before .judge .ensures, c .before .before .named .given .1, c .performs .ensures, c .before .before .before .before .before .latched .ensures)

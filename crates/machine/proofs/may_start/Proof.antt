@@ -1,29 +1,22 @@
+-- `machine::may_start` meets its contract: a waiting word is asked about.
 use Rattle.machine.specs.Judging.{mayStart}
 use borrow.Author.Needs.{needs}
 use Rattle.machine.proofs.may_start.Statement.{statement}
 use Rattle.machine.proofs.may_start.Tie as tie
-use Rattle.machine.proofs.may_start.Reads as reads
-use Rattle.machine.proofs.may_start.Lts as lts
-use Rattle.isa.proofs.takes_immediate.Reads as takes-immediate-reads
 
--- src/lib.rt:100:29
 enum-told : tie.Need-enum-told
 enum-told c = search needs
 
--- src/lib.rt:101:23
 enum-known-waiting : tie.Need-enum-known-waiting
 enum-known-waiting c = search needs
 
--- src/lib.rt:101:32
 takes-immediate-requires : tie.Need-takes-immediate-requires
 takes-immediate-requires c κs = search needs
 
--- src/lib.rt:96:1
 returns : tie.Need-returns
 unfolding mayStart
 returns c = rw (c .enum-told .given .1)
 
--- src/lib.rt:96:1
 returns-2 : tie.Need-returns-2
 unfolding mayStart
 returns-2 c = rw (c .before .before .waiting .given .1, c .takes-immediate .ensures)

@@ -1,191 +1,146 @@
+-- `machine::acting::outcome_for` meets its contract: in each arm the task is the arm's.
 use Rattle.machine.specs.Acting.{outcomeFor}
 use borrow.Author.Needs.{needs}
 use Rattle.machine.proofs.acting.outcome_for.Statement.{statement}
 use Rattle.machine.proofs.acting.outcome_for.Tie as tie
-use Rattle.machine.proofs.acting.outcome_for.Reads as reads
-use Rattle.machine.proofs.acting.outcome_for.Lts as lts
-use Rattle.alu.proofs.perform.Reads as perform-reads
-use Rattle.machine.proofs.acting.width_mask.Reads as width-mask-reads
 
--- src/acting.rt:30:30
 enum-told : tie.Need-enum-told
 enum-told c = search needs
 
--- src/acting.rt:31:26
 enum-known-task : tie.Need-enum-known-task
 enum-known-task c = search needs
 
--- src/acting.rt:31:35
 perform-requires : tie.Need-perform-requires
 perform-requires c κs = search needs
 
--- src/acting.rt:36:26
 enum-known-task-2 : tie.Need-enum-known-task-2
 enum-known-task-2 c = search needs
 
--- src/acting.rt:36:35
 perform-requires-2 : tie.Need-perform-requires-2
 perform-requires-2 c κs = search needs
 
--- src/acting.rt:41:19
 enum-known-task-3 : tie.Need-enum-known-task-3
 enum-known-task-3 c = search needs
 
--- src/acting.rt:41:28
 perform-requires-3 : tie.Need-perform-requires-3
 perform-requires-3 c κs = search needs
 
--- src/acting.rt:42:21
 enum-known-task-4 : tie.Need-enum-known-task-4
 enum-known-task-4 c = search needs
 
--- src/acting.rt:42:30
 perform-requires-4 : tie.Need-perform-requires-4
 perform-requires-4 c κs = search needs
 
--- src/acting.rt:43:44
 enum-told-2 : tie.Need-enum-told-2
 enum-told-2 c = search needs
 
--- src/acting.rt:43:25
 perform-requires-5 : tie.Need-perform-requires-5
 perform-requires-5 c κs = search needs
 
--- src/acting.rt:46:13
 enum-told-3 : tie.Need-enum-told-3
 enum-told-3 c = search needs
 
--- src/acting.rt:44:24
 perform-requires-6 : tie.Need-perform-requires-6
 perform-requires-6 c κs = search needs
 
--- src/acting.rt:56:13
 enum-told-4 : tie.Need-enum-told-4
 enum-told-4 c = search needs
 
--- src/acting.rt:54:26
 perform-requires-7 : tie.Need-perform-requires-7
 perform-requires-7 c κs = search needs
 
--- src/acting.rt:64:48
 enum-told-5 : tie.Need-enum-told-5
 enum-told-5 c = search needs
 
--- src/acting.rt:64:29
 perform-requires-8 : tie.Need-perform-requires-8
 perform-requires-8 c κs = search needs
 
--- src/acting.rt:67:13
 enum-told-6 : tie.Need-enum-told-6
 enum-told-6 c = search needs
 
--- src/acting.rt:65:29
 perform-requires-9 : tie.Need-perform-requires-9
 perform-requires-9 c κs = search needs
 
--- src/acting.rt:75:13
 enum-told-7 : tie.Need-enum-told-7
 enum-told-7 c = search needs
 
--- src/acting.rt:73:29
 perform-requires-10 : tie.Need-perform-requires-10
 perform-requires-10 c κs = search needs
 
--- src/acting.rt:82:21
 enum-told-8 : tie.Need-enum-told-8
 enum-told-8 c = search needs
 
--- src/acting.rt:85:25
 enum-known-task-5 : tie.Need-enum-known-task-5
 enum-known-task-5 c = search needs
 
--- src/acting.rt:86:21
 width-mask-requires : tie.Need-width-mask-requires
 width-mask-requires c κs = search needs
 
--- src/acting.rt:89:27
 enum-known-task-6 : tie.Need-enum-known-task-6
 enum-known-task-6 c = search needs
 
--- src/acting.rt:91:31
 sub-t28 : tie.Need-sub-t28
 sub-t28 c = search needs
 
--- src/acting.rt:93:29
 enum-told-9 : tie.Need-enum-told-9
 enum-told-9 c = search needs
 
--- src/acting.rt:26:1
 returns : tie.Need-returns
 unfolding outcomeFor
 returns c = rw (c .enum-told .given .1)
 
--- src/acting.rt:26:1
 returns-2 : tie.Need-returns-2
 unfolding outcomeFor
 returns-2 c = rw (c .before .before .task .given .1, c .perform .ensures)
 
--- src/acting.rt:26:1
 returns-3 : tie.Need-returns-3
 unfolding outcomeFor
 returns-3 c = rw (c .before .before .task2 .given .1, c .perform2 .ensures)
 
--- src/acting.rt:26:1
 returns-4 : tie.Need-returns-4
 unfolding outcomeFor
 returns-4 c = rw (c .before .before .task3 .given .1, c .perform3 .ensures)
 
--- src/acting.rt:26:1
 returns-5 : tie.Need-returns-5
 unfolding outcomeFor
 returns-5 c = rw (c .before .before .task4 .given .1, c .perform4 .ensures)
 
--- src/acting.rt:26:1
 returns-6 : tie.Need-returns-6
 unfolding outcomeFor
 returns-6 c = rw (c .before .enum-told2 .given .1, c .perform5 .ensures)
 
--- src/acting.rt:26:1
 returns-7 : tie.Need-returns-7
 unfolding outcomeFor
 returns-7 c = rw (c .before .enum-told3 .given .1, c .perform6 .ensures)
 
--- src/acting.rt:26:1
 returns-8 : tie.Need-returns-8
 unfolding outcomeFor
 returns-8 c = rw (c .before .enum-told4 .given .1, c .perform7 .ensures)
 
--- src/acting.rt:26:1
 returns-9 : tie.Need-returns-9
 unfolding outcomeFor
 returns-9 c = rw (c .before .enum-told5 .given .1, c .perform8 .ensures)
 
--- src/acting.rt:26:1
 returns-10 : tie.Need-returns-10
 unfolding outcomeFor
 returns-10 c = rw (c .before .enum-told6 .given .1, c .perform9 .ensures)
 
--- src/acting.rt:26:1
 returns-11 : tie.Need-returns-11
 unfolding outcomeFor
 returns-11 c = rw (c .before .enum-told7 .given .1, c .perform10 .ensures)
 
--- src/acting.rt:26:1
 returns-12 : tie.Need-returns-12
 unfolding outcomeFor
 returns-12 c = rw (c .enum-told8 .given .1)
 
--- src/acting.rt:26:1
 returns-13 : tie.Need-returns-13
 unfolding outcomeFor
 returns-13 c = rw (c .before .before .task5 .given .1, c .width-mask .ensures)
 
--- src/acting.rt:26:1
 returns-14 : tie.Need-returns-14
 unfolding outcomeFor
 returns-14 c = rw (c .before .task6 .given .1)
 
--- src/acting.rt:26:1
 returns-15 : tie.Need-returns-15
 unfolding outcomeFor
 returns-15 c = rw (c .enum-told9 .given .1)

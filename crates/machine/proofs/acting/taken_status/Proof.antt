@@ -1,38 +1,29 @@
+-- `machine::acting::taken_status` meets its contract: in each arm the mode is the arm's.
 use borrow.Author.Needs.{needs}
 use Rattle.machine.proofs.acting.taken_status.Statement.{statement}
 use Rattle.machine.proofs.acting.taken_status.Tie as tie
-use Rattle.machine.proofs.acting.taken_status.Reads as reads
-use Rattle.machine.proofs.acting.taken_status.Lts as lts
 
--- src/acting.rt:123:23
 enum-told : tie.Need-enum-told
 enum-told c = search needs
 
--- src/acting.rt:123:23
 mul-result : tie.Need-mul-result
 mul-result c = search needs
 
--- src/acting.rt:123:39
 cast-result : tie.Need-cast-result
 cast-result c = search needs
 
--- src/acting.rt:123:23
 add-result : tie.Need-add-result
 add-result c = search needs
 
--- src/acting.rt:124:24
 enum-told-2 : tie.Need-enum-told-2
 enum-told-2 c = search needs
 
--- src/acting.rt:124:23
 cast-result-2 : tie.Need-cast-result-2
 cast-result-2 c = search needs
 
--- src/acting.rt:119:1
 returns : tie.Need-returns
 returns c = rw (c .enum-told .given .1)
 
--- src/acting.rt:119:1
 returns-2 : tie.Need-returns-2
 returns-2 c = rw (c .enum-told2 .given .1)
 

@@ -1,19 +1,14 @@
+-- `machine::conditions::t` meets its contract: OE_T decides.
 use borrow.Author.Needs.{needs}
 use Rattle.machine.proofs.conditions.t.Statement.{statement}
 use Rattle.machine.proofs.conditions.t.Tie as tie
-use Rattle.machine.proofs.conditions.t.Reads as reads
-use Rattle.machine.proofs.conditions.t.Lts as lts
-use Rattle.machine.proofs.pins.oe_t_high.Reads as oe-t-high-reads
 
--- src/conditions.rt:68:8
 oe-t-high-requires : tie.Need-oe-t-high-requires
 oe-t-high-requires c κs = search needs
 
--- src/conditions.rt:65:1
 returns : tie.Need-returns
 returns c = rw (← c .before .oe-t-high .ensures, c .if1 .taken)
 
--- src/conditions.rt:65:1
 returns-2 : tie.Need-returns-2
 returns-2 c = rw (← c .before .oe-t-high .ensures, c .if1 .left)
 

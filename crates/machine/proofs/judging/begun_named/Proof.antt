@@ -1,35 +1,25 @@
+-- `machine::judging::begun_named` meets its contract: the plan's operands say whether I is asked for, and IEN whether it may be.
 use mathlib.Core.Path.{_∙_, sym}
 use Rattle.machine.proofs.Judged.{begun-late, begun-waits, begun-performs}
 use borrow.Author.Needs.{needs}
 use Rattle.machine.proofs.judging.begun_named.Statement.{statement}
 use Rattle.machine.proofs.judging.begun_named.Tie as tie
-use Rattle.machine.proofs.judging.begun_named.Reads as reads
-use Rattle.machine.proofs.judging.begun_named.Lts as lts
-use Rattle.machine.proofs.pins.ien_high.Reads as ien-high-reads
-use Rattle.plan.proofs.names_immediate.Reads as names-immediate-reads
-use Rattle.plan.proofs.plan_for.Reads as plan-for-reads
 
--- src/judging.rt:39:9
 plan-for-requires : tie.Need-plan-for-requires
 plan-for-requires c κs = search needs
 
--- src/judging.rt:41:8
 names-immediate-requires : tie.Need-names-immediate-requires
 names-immediate-requires c κs = search needs
 
--- src/judging.rt:42:12
 ien-high-requires : tie.Need-ien-high-requires
 ien-high-requires c κs = search needs
 
--- src/judging.rt:36:1
 returns : tie.Need-returns
 returns c = begun-late (c .before .before .before .before .before .before .args .named) _ (c .before .before .before .before .before .plan-for .ensures) _ (c .before .before .before .names-immediate .ensures) (c .before .before .before .before .before .before .args .levels) (c .before .before .if1 .taken) (sym (c .before .ien-high .ensures) ∙ c .if2 .taken)
 
--- src/judging.rt:36:1
 returns-2 : tie.Need-returns-2
 returns-2 c = begun-waits (c .before .before .before .before .before .before .args .named) _ (c .before .before .before .before .before .plan-for .ensures) _ (c .before .before .before .names-immediate .ensures) (c .before .before .before .before .before .before .args .levels) (c .before .before .if1 .taken) (sym (c .before .ien-high .ensures) ∙ c .if2 .left)
 
--- src/judging.rt:36:1
 returns-3 : tie.Need-returns-3
 returns-3 c = begun-performs (c .before .before .before .before .args .named) _ (c .before .before .before .plan-for .ensures) _ (c .before .names-immediate .ensures) (c .before .before .before .before .args .levels) (c .if1 .left)
 

@@ -1,14 +1,11 @@
+-- `machine::pins::stray_pin` meets its contract: the tests made are those of the definition.
 use borrow.Author.Tests.{eq-eqb, ne-eqb}
 use Rattle.machine.proofs.pins.stray_pin.Statement.{statement}
 use Rattle.machine.proofs.pins.stray_pin.Tie as tie
-use Rattle.machine.proofs.pins.stray_pin.Reads as reads
-use Rattle.machine.proofs.pins.stray_pin.Lts as lts
 
--- src/pins.rt:43:1
 returns : tie.Need-returns
 returns c = rw (eq-eqb _ _ (c .if1 .taken))
 
--- src/pins.rt:43:1
 returns-2 : tie.Need-returns-2
 returns-2 c = rw (ne-eqb _ _ (c .if1 .left))
 

@@ -1,70 +1,53 @@
+-- `machine::seeing::operand` meets its contract: in each arm the source is the arm's.
 use borrow.Author.Needs.{needs}
 use Rattle.machine.proofs.seeing.operand.Statement.{statement}
 use Rattle.machine.proofs.seeing.operand.Tie as tie
-use Rattle.machine.proofs.seeing.operand.Reads as reads
-use Rattle.machine.proofs.seeing.operand.Lts as lts
 
--- src/seeing.rt:38:25
 enum-told : tie.Need-enum-told
 enum-told c = search needs
 
--- src/seeing.rt:39:24
 enum-told-2 : tie.Need-enum-told-2
 enum-told-2 c = search needs
 
--- src/seeing.rt:40:24
 enum-told-3 : tie.Need-enum-told-3
 enum-told-3 c = search needs
 
--- src/seeing.rt:41:26
 enum-told-4 : tie.Need-enum-told-4
 enum-told-4 c = search needs
 
--- src/seeing.rt:42:30
 enum-told-5 : tie.Need-enum-told-5
 enum-told-5 c = search needs
 
--- src/seeing.rt:43:38
 enum-told-6 : tie.Need-enum-told-6
 enum-told-6 c = search needs
 
--- src/seeing.rt:44:38
 enum-told-7 : tie.Need-enum-told-7
 enum-told-7 c = search needs
 
--- src/seeing.rt:44:57
 mul-result : tie.Need-mul-result
 mul-result c = search needs
 
--- src/seeing.rt:44:38
 add-result : tie.Need-add-result
 add-result c = search needs
 
--- src/seeing.rt:34:1
 returns : tie.Need-returns
 returns c = search needs
 
--- src/seeing.rt:34:1
 returns-2 : tie.Need-returns-2
 returns-2 c = search needs
 
--- src/seeing.rt:34:1
 returns-3 : tie.Need-returns-3
 returns-3 c = search needs
 
--- src/seeing.rt:34:1
 returns-4 : tie.Need-returns-4
 returns-4 c = search needs
 
--- src/seeing.rt:34:1
 returns-5 : tie.Need-returns-5
 returns-5 c = search needs
 
--- src/seeing.rt:34:1
 returns-6 : tie.Need-returns-6
 returns-6 c = rw (c .before .enum-told6 .given .1)
 
--- src/seeing.rt:34:1
 returns-7 : tie.Need-returns-7
 returns-7 c = rw (c .before .before .enum-told7 .given .1)
 

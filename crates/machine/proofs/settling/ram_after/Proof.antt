@@ -1,71 +1,53 @@
+-- `machine::settling::ram_after` meets its contract: in each arm the destination is the arm's.
 use borrow.Author.Needs.{needs}
 use Rattle.machine.proofs.settling.ram_after.Statement.{statement}
 use Rattle.machine.proofs.settling.ram_after.Tie as tie
-use Rattle.machine.proofs.settling.ram_after.Reads as reads
-use Rattle.machine.proofs.settling.ram_after.Lts as lts
-use Rattle.alu.proofs.write_back.Reads as write-back-reads
 
--- src/settling.rt:45:29
 enum-told : tie.Need-enum-told
 enum-told c = search needs
 
--- src/settling.rt:46:31
 enum-told-2 : tie.Need-enum-told-2
 enum-told-2 c = search needs
 
--- src/settling.rt:48:23
 enum-told-3 : tie.Need-enum-told-3
 enum-told-3 c = search needs
 
--- src/settling.rt:48:22
 cast-at : tie.Need-cast-at
 cast-at c = search needs
 
--- src/settling.rt:50:23
 mul-old : tie.Need-mul-old
 mul-old c = search needs
 
--- src/settling.rt:50:23
 array-read-old : tie.Need-array-read-old
 array-read-old c = search needs
 
--- src/settling.rt:51:24
 write-back-requires : tie.Need-write-back-requires
 write-back-requires c κs = search needs
 
--- src/settling.rt:51:13
 mul-next : tie.Need-mul-next
 mul-next c = search needs
 
--- src/settling.rt:51:13
 array-write-next : tie.Need-array-write-next
 array-write-next c = search needs
 
--- src/settling.rt:54:34
 enum-told-4 : tie.Need-enum-told-4
 enum-told-4 c = search needs
 
--- src/settling.rt:55:40
 enum-told-5 : tie.Need-enum-told-5
 enum-told-5 c = search needs
 
--- src/settling.rt:35:1
 returns : tie.Need-returns
 returns c = search needs
 
--- src/settling.rt:35:1
 returns-2 : tie.Need-returns-2
 returns-2 c = search needs
 
--- src/settling.rt:35:1
 returns-3 : tie.Need-returns-3
 returns-3 c = rw (c .before .enum-told3 .given .1, c .write-back .ensures)
 
--- src/settling.rt:35:1
 returns-4 : tie.Need-returns-4
 returns-4 c = search needs
 
--- src/settling.rt:35:1
 returns-5 : tie.Need-returns-5
 returns-5 c = search needs
 

@@ -1,19 +1,14 @@
+-- `machine::settling::status_after` meets its contract: IEN and SRE decide.
 use borrow.Author.Needs.{needs}
 use Rattle.machine.proofs.settling.status_after.Statement.{statement}
 use Rattle.machine.proofs.settling.status_after.Tie as tie
-use Rattle.machine.proofs.settling.status_after.Reads as reads
-use Rattle.machine.proofs.settling.status_after.Lts as lts
-use Rattle.machine.proofs.pins.both_low.Reads as both-low-reads
 
--- src/settling.rt:74:8
 both-low-requires : tie.Need-both-low-requires
 both-low-requires c κs = search needs
 
--- src/settling.rt:71:1
 returns : tie.Need-returns
 returns c = rw (← c .before .both-low .ensures, c .if1 .taken)
 
--- src/settling.rt:71:1
 returns-2 : tie.Need-returns-2
 returns-2 c = rw (← c .before .both-low .ensures, c .if1 .left)
 

@@ -1,0 +1,85 @@
+-- What a cycle keeps: upper bytes in byte mode, and everything after Test and NOOP.
+use mathlib.Core.Path.{_≡_, refl}
+use mathlib.Core.Bool.{Bool, true, false}
+use mathlib.Core.List.{List, map}
+use Prim.Native.Nat.{ℕ, _/_, _%_}
+use lib.ListN.{getD}
+use lib.Seq.{map-set-same}
+use Rattle.choice.specs.Pick.{pick}
+use Rattle.alu.specs.declared.Mode.{Mode}
+use Rattle.alu.specs.declared.Mode.the-variants.{Byte}
+use Rattle.alu.specs.Width.{writeBack}
+use Rattle.alu.proofs.Written.{written-high}
+use Rattle.plan.specs.declared.Destination.{Destination}
+use Rattle.plan.specs.declared.Destination.the-variants.{ToY, ToAcc, ToRam, ToStatus, ToAccAndStatus}
+use Rattle.plan.specs.declared.Task.the-variants.{NoOperation, TestStatus}
+use Rattle.plan.specs.declared.Chooser.{Chooser}
+use Rattle.plan.specs.declared.Plan.{Plan}
+use Rattle.plan.specs.Plans.{idle}
+use Rattle.machine.specs.declared.Waiting.the-variants.{Nothing}
+use Rattle.machine.specs.declared.Registers.{Registers}
+use Rattle.machine.specs.declared.Effect.{Effect}
+use Rattle.machine.specs.Pins.{ienHigh, bothLow}
+use Rattle.machine.specs.Seeing.{viewOf}
+use Rattle.machine.specs.Acting.{outcomeFor, effectOf}
+use Rattle.machine.specs.Settling.{withWaiting, ramAfter, accAfter, settledOf}
+use Rattle.machine.specs.Cycles.{effectFrom}
+
+-- the upper byte of a word
+abbrev pub upper : ℕ → ℕ
+upper x = x / 256
+
+ram-upper : (d : Destination) (k y : ℕ) (ram : List ℕ) → map upper (ramAfter d Byte k y ram) ≡ map upper ram
+ram-upper ToY k y ram = refl
+ram-upper ToAcc k y ram = refl
+ram-upper ToRam k y ram =
+    map-set-same upper ram (k % 32) (writeBack 8 (getD ram (k % 32) 0) y) 0 (written-high 8 (getD ram (k % 32) 0) y)
+ram-upper ToStatus k y ram = refl
+ram-upper ToAccAndStatus k y ram = refl
+
+acc-upper : (d : Destination) (y acc : ℕ) → upper (accAfter d Byte y acc) ≡ upper acc
+acc-upper ToY y acc = refl
+acc-upper ToAcc y acc = written-high 8 acc y
+acc-upper ToRam y acc = refl
+acc-upper ToStatus y acc = refl
+acc-upper ToAccAndStatus y acc = written-high 8 acc y
+
+-- in byte mode the upper byte of every RAM word and of ACC stays
+module _ (k : ℕ) (r : Registers) (e : Effect) (pins : ℕ) where
+  pub byte-keeps-ram : map upper (settledOf Byte k r e pins .ram) ≡ map upper (r .ram)
+  unfolding settledOf
+  byte-keeps-ram = by-test (ienHigh pins)
+    where
+      by-test : (b : Bool) → map upper (pick b (r .ram) (ramAfter (e .destination) Byte k (e .result) (r .ram))) ≡ map upper (r .ram)
+      by-test true = refl
+      by-test false = ram-upper (e .destination) k (e .result) (r .ram)
+
+  pub byte-keeps-acc : upper (settledOf Byte k r e pins .acc) ≡ upper (r .acc)
+  unfolding settledOf
+  byte-keeps-acc = by-test (ienHigh pins)
+    where
+      by-test : (b : Bool) → upper (pick b (r .acc) (accAfter (e .destination) Byte (e .result) (r .acc))) ≡ upper (r .acc)
+      by-test true = refl
+      by-test false = acc-upper (e .destination) (e .result) (r .acc)
+
+-- Test and NOOP change no status, RAM or ACC: whatever the pins, the registers stay
+module _ (mode : Mode) (n k : ℕ) (by : Chooser) (r : Registers) (immediate pins : ℕ) where
+  abbrev noop : Plan
+  noop = record { mode = mode; n = n; register = k; work = idle NoOperation by }
+
+  abbrev test : Plan
+  test = record { mode = mode; n = n; register = k; work = idle TestStatus by }
+
+  stays : (a b : Bool) → record { ram = pick a (r .ram) (r .ram); acc = pick a (r .acc) (r .acc); latch = r .latch; status = pick b (r .status) (r .status); waiting = Nothing } ≡ withWaiting r Nothing
+  stays true true = refl
+  stays true false = refl
+  stays false true = refl
+  stays false false = refl
+
+  pub noop-changes-nothing : settledOf mode k r (effectFrom noop r immediate) pins ≡ withWaiting r Nothing
+  unfolding settledOf effectOf outcomeFor viewOf
+  noop-changes-nothing = stays (ienHigh pins) (bothLow pins)
+
+  pub test-changes-nothing : settledOf mode k r (effectFrom test r immediate) pins ≡ withWaiting r Nothing
+  unfolding settledOf effectOf outcomeFor viewOf
+  test-changes-nothing = stays (ienHigh pins) (bothLow pins)
