@@ -8,13 +8,13 @@ ghost use Rattle.isa.specs.Fields.{modeOf, markFor};
 ghost use Rattle.isa.specs.Slots.{agrees, takes};
 ghost use Rattle.isa.specs.Words.{ruleChecks, asksI};
 
-pub fn mode_of(mark: u8) -> Mode
+pub(crate) fn mode_of(mark: u8) -> Mode
     ensures { λ r. ⌜ r ≡ modeOf mark ⌝ }
 {
     if mark == 0 { Mode::Byte } else { Mode::Word }
 }
 
-pub fn mark_for(mode: Mode) -> u8
+pub(crate) fn mark_for(mode: Mode) -> u8
     ensures { λ r. ⌜ r ≡ markFor mode ⌝ }
 {
     match mode {
@@ -46,7 +46,7 @@ fn agreeing(row: Row, mark: u8, a: u8, b: u8) -> bool
 }
 
 // Whether the row has the value of C too.
-pub fn taking(row: Row, mark: u8, a: u8, b: u8, c: u8) -> bool
+pub(crate) fn taking(row: Row, mark: u8, a: u8, b: u8, c: u8) -> bool
     ensures { λ r. ⌜ r ≡ takes row mark a b c ⌝ }
 {
     if agreeing(row, mark, a, b) {
@@ -57,7 +57,7 @@ pub fn taking(row: Row, mark: u8, a: u8, b: u8, c: u8) -> bool
 }
 
 // What the row's rule refuses: 8, 9, or 0 for nothing.
-pub fn rule_refusal(row: Row, mark: u8, a: u8, b: u8) -> u8
+pub(crate) fn rule_refusal(row: Row, mark: u8, a: u8, b: u8) -> u8
     ensures { λ r. ⌜ r ≡ refusal (ruleChecks row mark a b) ⌝ }
 {
     if row.rule == 8 {
@@ -78,7 +78,7 @@ pub fn rule_refusal(row: Row, mark: u8, a: u8, b: u8) -> u8
 }
 
 // Whether the row has an I operand with these values of A and B.
-pub fn asks_immediate(row: Row, a: u8, b: u8) -> bool
+pub(crate) fn asks_immediate(row: Row, a: u8, b: u8) -> bool
     ensures { λ r. ⌜ r ≡ asksI row a b ⌝ }
 {
     if holds(row.immediate, a as u32) {

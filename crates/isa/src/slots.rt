@@ -371,7 +371,7 @@ fn with_c(slot: u8, c: u8) -> u8
 }
 
 // The row that a word's fields belong to.
-pub fn row_of(mark: u8, q: u8, a: u8, b: u8, c: u8) -> u8
+pub(crate) fn row_of(mark: u8, q: u8, a: u8, b: u8, c: u8) -> u8
     requires { ⌜ (mark < 2) × (q < 4) × (a < 16) × (b < 16) × (c < 32) ⌝ }
     ensures { λ r. ⌜ r ≡ rowOf mark q a b c ⌝ }
 {

@@ -325,7 +325,7 @@ const ROWS: [Row; 27] = [
 ];
 
 // The row of a number.
-pub fn row_at(number: usize) -> Row
+pub(crate) fn row_at(number: usize) -> Row
     requires { ⌜ number < 27 ⌝ }
     ensures { λ r. ⌜ r ≡ rowAt number ⌝ }
 {
@@ -333,7 +333,7 @@ pub fn row_at(number: usize) -> Row
 }
 
 // The number of a family's row.
-pub fn number_of(family: Family) -> u8
+pub(crate) fn number_of(family: Family) -> u8
     ensures { λ r. ⌜ r ≡ numberOf family ⌝ }
 {
     match family {

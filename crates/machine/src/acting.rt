@@ -188,7 +188,7 @@ fn effect_by(plan: Plan, outcome: Outcome, old: u8) -> Effect
     }
 }
 
-pub fn acted(plan: Plan, view: View) -> Effect
+pub(crate) fn acted(plan: Plan, view: View) -> Effect
     ensures { λ e. ⌜ e ≡ effectOf plan view ⌝ }
 {
     effect_by(plan, performed(plan, view), view.status)

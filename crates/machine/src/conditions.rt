@@ -46,7 +46,7 @@ fn ct_by_pins(status: u8, levels: u16) -> u8
 }
 
 // CT, by the status before the cycle.
-pub fn ct(chooser: Chooser, status: u8, levels: u16) -> u8
+pub(crate) fn ct(chooser: Chooser, status: u8, levels: u16) -> u8
     ensures { λ r. ⌜ r ≡ ctOf chooser status levels ⌝ }
 {
     match chooser {
@@ -62,7 +62,7 @@ pub fn ct(chooser: Chooser, status: u8, levels: u16) -> u8
 }
 
 // T, by the status after the cycle.
-pub fn t(status: u8, levels: u16) -> u8
+pub(crate) fn t(status: u8, levels: u16) -> u8
     ensures { λ r. ⌜ r ≡ tOf status levels ⌝ }
 {
     if pins::oe_t_high(levels) {

@@ -82,7 +82,7 @@ fn continued(decoded: Decoded, words: Words) -> Judgement
     }
 }
 
-pub fn judge(waiting: Waiting, words: Words) -> Judgement
+pub(crate) fn judge(waiting: Waiting, words: Words) -> Judgement
     ensures { λ r. ⌜ r ≡ judgementOf waiting words ⌝ }
 {
     match waiting {

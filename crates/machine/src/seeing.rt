@@ -17,7 +17,7 @@ fn at_width(mode: Mode, x: u16) -> u16
     }
 }
 
-pub fn seen(mode: Mode, register: u8, registers: Registers, immediate: u16) -> View
+pub(crate) fn seen(mode: Mode, register: u8, registers: Registers, immediate: u16) -> View
     ensures { λ r. ⌜ r ≡ viewOf mode register registers immediate ⌝ }
 {
     let at = (register % 32) as usize;
@@ -31,7 +31,7 @@ pub fn seen(mode: Mode, register: u8, registers: Registers, immediate: u16) -> V
     }
 }
 
-pub fn operand(source: Source, view: View) -> u16
+pub(crate) fn operand(source: Source, view: View) -> u16
     ensures { λ r. ⌜ r ≡ operandOf source view ⌝ }
 {
     match source {

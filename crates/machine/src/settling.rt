@@ -9,7 +9,7 @@ ghost use mathlib.Core.Path.{_≡_};
 ghost use Rattle.machine.specs.Settling.{latched as specs·latched, withWaiting, ramAfter, accAfter, statusAfter, settledOf};
 
 // D takes the Y input where DLE is high.
-pub fn latched(registers: Registers, input: u16, levels: u16) -> Registers
+pub(crate) fn latched(registers: Registers, input: u16, levels: u16) -> Registers
     ensures { λ r. ⌜ r ≡ specs·latched registers input levels ⌝ }
 {
     let mut next = registers;
@@ -19,7 +19,7 @@ pub fn latched(registers: Registers, input: u16, levels: u16) -> Registers
     next
 }
 
-pub fn with_waiting(registers: Registers, waiting: Waiting) -> Registers
+pub(crate) fn with_waiting(registers: Registers, waiting: Waiting) -> Registers
     ensures { λ r. ⌜ r ≡ withWaiting registers waiting ⌝ }
 {
     let ram = registers.ram;
@@ -75,7 +75,7 @@ fn status_after(old: u8, new: u8, levels: u16) -> u8
 }
 
 // The registers after an instruction; register is the one that is written.
-pub fn settled(
+pub(crate) fn settled(
     mode: Mode,
     register: u8,
     registers: Registers,

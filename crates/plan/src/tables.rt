@@ -44,14 +44,14 @@ fn logic_kind(b: u8) -> TwoOperandKind
 }
 
 // Field B of TOR1, TOR2 and TONR.
-pub fn two_operand_kind(b: u8) -> TwoOperandKind
+pub(crate) fn two_operand_kind(b: u8) -> TwoOperandKind
     ensures { λ r. ⌜ Along sameTwoOperandKind 16 twoOperandAt b r ⌝ }
 {
     if b < 6 { sum_kind(b) } else { logic_kind(b) }
 }
 
 // Field A of SOR and SONR.
-pub fn one_operand_kind(a: u8) -> OneOperandKind
+pub(crate) fn one_operand_kind(a: u8) -> OneOperandKind
     ensures { λ r. ⌜ Along sameOneOperandKind 16 oneOperandAt a r ⌝ }
 {
     match a {
@@ -90,7 +90,7 @@ fn shift_down_kind(b: u8) -> ShiftKind
 }
 
 // Field B of SHFTR and SHFTNR.
-pub fn shift_kind(b: u8) -> ShiftKind
+pub(crate) fn shift_kind(b: u8) -> ShiftKind
     ensures { λ r. ⌜ Along sameShiftKind 16 shiftAt b r ⌝ }
 {
     if b < 4 {
@@ -101,7 +101,7 @@ pub fn shift_kind(b: u8) -> ShiftKind
 }
 
 // Field B of BOR2.
-pub fn bor2_kind(b: u8) -> BitKind
+pub(crate) fn bor2_kind(b: u8) -> BitKind
     ensures { λ r. ⌜ Along sameBitKind 16 bor2At b r ⌝ }
 {
     match b {
@@ -113,7 +113,7 @@ pub fn bor2_kind(b: u8) -> BitKind
 }
 
 // Field B of BOR1.
-pub fn bor1_kind(b: u8) -> BitKind
+pub(crate) fn bor1_kind(b: u8) -> BitKind
     ensures { λ r. ⌜ Along sameBitKind 16 bor1At b r ⌝ }
 {
     match b {
@@ -156,7 +156,7 @@ fn latch_bit_kind(c: u8) -> BitKind
 }
 
 // Field C of BONR.
-pub fn bonr_kind(c: u8) -> BitKind
+pub(crate) fn bonr_kind(c: u8) -> BitKind
     ensures { λ r. ⌜ Along sameBitKind 32 bonrAt c r ⌝ }
 {
     if c < 16 {
@@ -167,7 +167,7 @@ pub fn bonr_kind(c: u8) -> BitKind
 }
 
 // Field C of SETST and RSTST: the status bits.
-pub fn status_bits(c: u8) -> u8
+pub(crate) fn status_bits(c: u8) -> u8
     ensures { λ r. ⌜ Along eqb 32 statusBitsAt c r ⌝ }
 {
     match c {
@@ -181,7 +181,7 @@ pub fn status_bits(c: u8) -> u8
 }
 
 // Field A of TOR1: R.
-pub fn ram_pair_r(a: u8) -> Source
+pub(crate) fn ram_pair_r(a: u8) -> Source
     ensures { λ r. ⌜ Along sameSource 16 ramPairR a r ⌝ }
 {
     match a {
@@ -193,7 +193,7 @@ pub fn ram_pair_r(a: u8) -> Source
 }
 
 // Field A of TOR1: S.
-pub fn ram_pair_s(a: u8) -> Source
+pub(crate) fn ram_pair_s(a: u8) -> Source
     ensures { λ r. ⌜ Along sameSource 16 ramPairS a r ⌝ }
 {
     match a {
@@ -208,7 +208,7 @@ pub fn ram_pair_s(a: u8) -> Source
 }
 
 // Field A of TOR2 and TONR: R.
-pub fn pair_r(a: u8) -> Source
+pub(crate) fn pair_r(a: u8) -> Source
     ensures { λ r. ⌜ Along sameSource 16 pairR a r ⌝ }
 {
     match a {
@@ -218,7 +218,7 @@ pub fn pair_r(a: u8) -> Source
 }
 
 // Field A of TOR2 and TONR: S.
-pub fn pair_s(a: u8) -> Source
+pub(crate) fn pair_s(a: u8) -> Source
     ensures { λ r. ⌜ Along sameSource 16 pairS a r ⌝ }
 {
     match a {
@@ -256,14 +256,14 @@ fn high_source(b: u8) -> Source
 }
 
 // Field B of SOR, SONR, PRT3 and PRTNR: the source.
-pub fn source_at(b: u8) -> Source
+pub(crate) fn source_at(b: u8) -> Source
     ensures { λ r. ⌜ Along sameSource 16 sourceAt b r ⌝ }
 {
     if b < 6 { low_source(b) } else { high_source(b) }
 }
 
 // Field B of PRT1: the source.
-pub fn prt1_source(b: u8) -> Source
+pub(crate) fn prt1_source(b: u8) -> Source
     ensures { λ r. ⌜ Along sameSource 16 prt1Source b r ⌝ }
 {
     match b {
@@ -273,7 +273,7 @@ pub fn prt1_source(b: u8) -> Source
 }
 
 // Field A of PRT2, PRT3 and PRTNR: the mask.
-pub fn mask_source(a: u8) -> Source
+pub(crate) fn mask_source(a: u8) -> Source
     ensures { λ r. ⌜ Along sameSource 16 maskAt a r ⌝ }
 {
     match a {
@@ -284,7 +284,7 @@ pub fn mask_source(a: u8) -> Source
 }
 
 // Field B of ROTR2, ROTC and ROTM: U.
-pub fn rotate_u(b: u8) -> Source
+pub(crate) fn rotate_u(b: u8) -> Source
     ensures { λ r. ⌜ Along sameSource 16 rotateU b r ⌝ }
 {
     match b {
@@ -297,7 +297,7 @@ pub fn rotate_u(b: u8) -> Source
 }
 
 // Field B of ROTC and ROTM: R.
-pub fn rotate_r(b: u8) -> Source
+pub(crate) fn rotate_r(b: u8) -> Source
     ensures { λ r. ⌜ Along sameSource 16 rotateR b r ⌝ }
 {
     match b {
@@ -309,7 +309,7 @@ pub fn rotate_r(b: u8) -> Source
 }
 
 // Field B of ROTC and ROTM: the mask.
-pub fn rotate_mask(b: u8) -> Source
+pub(crate) fn rotate_mask(b: u8) -> Source
     ensures { λ r. ⌜ Along sameSource 16 rotateMask b r ⌝ }
 {
     match b {
@@ -321,14 +321,14 @@ pub fn rotate_mask(b: u8) -> Source
 }
 
 // Field A of SHFTR and SHFTNR: the source, which at 6 is the family's own.
-pub fn shift_source(own: Source, a: u8) -> Source
+pub(crate) fn shift_source(own: Source, a: u8) -> Source
     ensures { λ r. ⌜ r ≡ shiftSource own a ⌝ }
 {
     if a == 6 { own } else { Source::Latch }
 }
 
 // Where a merge's R or a bit operation's source is written back.
-pub fn back_to(source: Source) -> Destination
+pub(crate) fn back_to(source: Source) -> Destination
     ensures { λ r. ⌜ r ≡ back source ⌝ }
 {
     match source {
@@ -343,7 +343,7 @@ pub fn back_to(source: Source) -> Destination
 }
 
 // Where a bit operation goes.
-pub fn bit_to(kind: BitKind, source: Source) -> Destination
+pub(crate) fn bit_to(kind: BitKind, source: Source) -> Destination
     ensures { λ r. ⌜ r ≡ bitTo kind source ⌝ }
 {
     match kind {
@@ -358,7 +358,7 @@ pub fn bit_to(kind: BitKind, source: Source) -> Destination
 }
 
 // Field C of BONR: the source.
-pub fn bonr_source(c: u8) -> Source
+pub(crate) fn bonr_source(c: u8) -> Source
     ensures { λ r. ⌜ Along sameSource 32 bonrSource c r ⌝ }
 {
     match c {
@@ -369,7 +369,7 @@ pub fn bonr_source(c: u8) -> Source
 }
 
 // Field C of ROTNR: the source.
-pub fn rotnr_source(c: u8) -> Source
+pub(crate) fn rotnr_source(c: u8) -> Source
     ensures { λ r. ⌜ Along sameSource 32 rotnrSource c r ⌝ }
 {
     match c {
@@ -379,7 +379,7 @@ pub fn rotnr_source(c: u8) -> Source
 }
 
 // Field A of TOR1: the destination.
-pub fn ram_pair_to(a: u8) -> Destination
+pub(crate) fn ram_pair_to(a: u8) -> Destination
     ensures { λ r. ⌜ Along sameDestination 16 ramPairTo a r ⌝ }
 {
     match a {
@@ -392,7 +392,7 @@ pub fn ram_pair_to(a: u8) -> Destination
 }
 
 // Field B of ROTR1: the destination.
-pub fn rotr1_to(b: u8) -> Destination
+pub(crate) fn rotr1_to(b: u8) -> Destination
     ensures { λ r. ⌜ Along sameDestination 16 rotr1To b r ⌝ }
 {
     match b {
@@ -403,7 +403,7 @@ pub fn rotr1_to(b: u8) -> Destination
 }
 
 // Field B of SOR: the destination.
-pub fn sor_to(b: u8) -> Destination
+pub(crate) fn sor_to(b: u8) -> Destination
     ensures { λ r. ⌜ Along sameDestination 16 sorTo b r ⌝ }
 {
     match b {
@@ -415,7 +415,7 @@ pub fn sor_to(b: u8) -> Destination
 }
 
 // Field A of PRT1: the destination.
-pub fn prt1_to(a: u8) -> Destination
+pub(crate) fn prt1_to(a: u8) -> Destination
     ensures { λ r. ⌜ Along sameDestination 16 prt1To a r ⌝ }
 {
     match a {
@@ -426,7 +426,7 @@ pub fn prt1_to(a: u8) -> Destination
 }
 
 // Field B of PRT2: the destination.
-pub fn prt2_to(b: u8) -> Destination
+pub(crate) fn prt2_to(b: u8) -> Destination
     ensures { λ r. ⌜ Along sameDestination 16 prt2To b r ⌝ }
 {
     match b {
@@ -436,7 +436,7 @@ pub fn prt2_to(b: u8) -> Destination
 }
 
 // Field C of SONR, TONR, SHFTNR, PRTNR and SVSTNR: the destination.
-pub fn no_ram_to(c: u8) -> Destination
+pub(crate) fn no_ram_to(c: u8) -> Destination
     ensures { λ r. ⌜ Along sameDestination 32 noRamTo c r ⌝ }
 {
     match c {
@@ -448,7 +448,7 @@ pub fn no_ram_to(c: u8) -> Destination
 }
 
 // Field C of ROTNR: the destination.
-pub fn rotnr_to(c: u8) -> Destination
+pub(crate) fn rotnr_to(c: u8) -> Destination
     ensures { λ r. ⌜ Along sameDestination 32 rotnrTo c r ⌝ }
 {
     match c {
