@@ -1,5 +1,5 @@
 -- What a cycle keeps: upper bytes in byte mode, and everything after Test and NOOP.
-use mathlib.Core.Path.{_≡_, refl}
+use mathlib.Core.Path.{_≡_, refl, _∙_, ap}
 use mathlib.Core.Bool.{Bool, true, false}
 use mathlib.Core.List.{List, map}
 use Prim.Native.Nat.{ℕ, _/_, _%_}
@@ -14,8 +14,12 @@ use Rattle.plan.specs.declared.Destination.{Destination}
 use Rattle.plan.specs.declared.Destination.the-variants.{ToY, ToAcc, ToRam, ToStatus, ToAccAndStatus}
 use Rattle.plan.specs.declared.Task.the-variants.{NoOperation, TestStatus}
 use Rattle.plan.specs.declared.Chooser.{Chooser}
+use Rattle.plan.specs.declared.Chooser.the-variants.{Pins, Instruction}
 use Rattle.plan.specs.declared.Plan.{Plan}
-use Rattle.plan.specs.Plans.{idle}
+use Rattle.plan.specs.Plans.{idle, workOf, planOf}
+use Rattle.isa.specs.declared.Family.{Family}
+use Rattle.isa.specs.declared.Family.the-variants.{Test, Noop}
+use Rattle.isa.specs.declared.Named.{Named}
 use Rattle.machine.specs.declared.Waiting.the-variants.{Nothing}
 use Rattle.machine.specs.declared.Registers.{Registers}
 use Rattle.machine.specs.declared.Effect.{Effect}
@@ -83,3 +87,19 @@ module _ (mode : Mode) (n k : ℕ) (by : Chooser) (r : Registers) (immediate pin
   pub test-changes-nothing : settledOf mode k r (effectFrom test r immediate) pins ≡ withWaiting r Nothing
   unfolding settledOf effectOf outcomeFor viewOf
   test-changes-nothing = stays (ienHigh pins) (bothLow pins)
+
+-- so an instruction of the family Test or NOOP leaves every register as it was, and nothing waiting
+module _ (i : Named) (r : Registers) (immediate pins : ℕ) where
+  abbrev after : Family → Registers
+  after f =
+      settledOf (i .mode) (i .c % 32) r
+      (effectFrom (record { mode = i .mode; n = i .a % 16; register = i .c % 32; work = workOf f (i .a % 16) (i .b % 16) (i .c % 32) }) r immediate)
+      pins
+
+  pub family-noop : i .family ≡ Noop → settledOf (planOf i .mode) (planOf i .register) r (effectFrom (planOf i) r immediate) pins ≡ withWaiting r Nothing
+  unfolding planOf workOf
+  family-noop e = ap after e ∙ noop-changes-nothing (i .mode) (i .a % 16) (i .c % 32) Pins r immediate pins
+
+  pub family-test : i .family ≡ Test → settledOf (planOf i .mode) (planOf i .register) r (effectFrom (planOf i) r immediate) pins ≡ withWaiting r Nothing
+  unfolding planOf workOf
+  family-test e = ap after e ∙ test-changes-nothing (i .mode) (i .a % 16) (i .c % 32) (Instruction (i .c % 32 / 2)) r immediate pins
