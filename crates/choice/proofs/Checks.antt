@@ -4,10 +4,14 @@ use mathlib.Core.Bool.{Bool, true, false}
 use mathlib.Core.List.{List, [], _∷_, _++_}
 use mathlib.Core.Logic.{_↔_}
 use Prim.Native.Nat.{ℕ}
-use lib.Dec.{T, eqb}
+use lib.Dec.{T, eqb, leb}
 use borrow.Author.Tests.{eq-eqb}
 use Rattle.choice.specs.Checks.{Check, check, refusal, clear, without}
 use Rattle.choice.proofs.Spans.{never}
+
+-- a number from 1 on, by a test that computes
+pub positive : (k : ℕ) → T (leb 1 k) → k ≡ 0 → ⊥
+positive k t e = let h : T (leb 1 0) = rw e at t in absurd h
 
 -- a number that no check of the list has is not given by it
 other : (k : ℕ) (xs : List Check) → T (without k xs) → (k ≡ 0 → ⊥) → refusal xs ≡ k → ⊥

@@ -174,20 +174,6 @@ fn chooser_place(chooser: Chooser) -> usize
     }
 }
 
-fn is_immediate(source: Source) -> bool {
-    match source {
-        Source::Immediate => true,
-        _ => false,
-    }
-}
-
-fn names_immediate(operands: Operands) -> bool {
-    let first = operands.first;
-    let second = operands.second;
-    let mask = operands.mask;
-    is_immediate(first) || is_immediate(second) || is_immediate(mask)
-}
-
 fn count_operands(tally: Tally, operands: Operands) -> Tally {
     let first = operands.first;
     let second = operands.second;
@@ -197,8 +183,9 @@ fn count_operands(tally: Tally, operands: Operands) -> Tally {
     counted(tally, MASK + source_place(mask))
 }
 
-fn count_sums(tally: Tally, operands: Operands, destination: Destination) -> Tally {
-    if names_immediate(operands) {
+fn count_sums(tally: Tally, work: Work) -> Tally {
+    let destination = work.destination;
+    if plan::names_immediate(work) {
         return counted(tally, IMMEDIATE);
     }
     match destination {
@@ -218,7 +205,7 @@ fn count_work(tally: Tally, work: Work) -> Tally {
     let tally = counted(tally, DESTINATION + destination_place(destination));
     let tally = counted(tally, SHOWN + shown_place(shown));
     let tally = counted(tally, CHOOSER + chooser_place(chooser));
-    count_sums(tally, operands, destination)
+    count_sums(tally, work)
 }
 
 fn count_named(tally: Tally, named: Named) -> Tally {

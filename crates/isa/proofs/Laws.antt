@@ -14,7 +14,7 @@ use Rattle.alu.specs.declared.Mode.the-variants.{Byte, Word}
 use Rattle.choice.specs.Pick.{pick}
 use Rattle.choice.specs.Checks.{check, refusal, clear}
 use Rattle.choice.specs.Tells.{Tells, accepted, refused, tells}
-use Rattle.choice.proofs.Checks.{exactly, cleared}
+use Rattle.choice.proofs.Checks.{positive, exactly, cleared}
 use Rattle.choice.proofs.Tells.{accepted-one, refused-one, accepted-refused, told-accepted, told-number}
 use Rattle.isa.specs.declared.Family.{Family}
 use Rattle.isa.specs.declared.Named.{Named}
@@ -168,9 +168,6 @@ named-answered n =
 -- a number's condition, said of what is told
 exactly-told : {A : Type 0} (k j : ℕ) (x : A) {P : Type 0} → (j ≡ k) ↔ P → (tells j x .number ≡ k) ↔ P
 exactly-told k j x h = rw (told-number j x) h
-
-positive : (k : ℕ) → T (leb 1 k) → k ≡ 0 → ⊥
-positive k t e = let h : T (leb 1 0) = rw e at t in absurd h
 
 past-all : (i j n : ℕ) → i ≡ j → n ≤ i → j < n → ⊥
 past-all i j n e l h = omega arith

@@ -4,12 +4,12 @@ use mathlib.Core.Bool.{Bool, true, false, not}
 use mathlib.Core.List.{[], _∷_}
 use mathlib.Core.Logic.{_↔_, ⊎-elim}
 use Prim.Native.Nat.{ℕ}
-use lib.Dec.{T, eqb, leb}
+use lib.Dec.{T, eqb}
 use borrow.Author.Tests.{eqb-true}
 use Rattle.choice.specs.Pick.{pick}
 use Rattle.choice.specs.Checks.{Check, check, refusal, clear, without}
 use Rattle.choice.specs.Tells.{Tells}
-use Rattle.choice.proofs.Checks.{exactly}
+use Rattle.choice.proofs.Checks.{positive, exactly}
 use Rattle.choice.proofs.Spans.{never}
 use Rattle.isa.specs.declared.Named.{Named}
 use Rattle.isa.specs.Words.{decodeOf, namedBy, takesImmediate}
@@ -25,9 +25,6 @@ use Rattle.machine.specs.Pins.{ienHigh, strayPin, busClash}
 use Rattle.machine.specs.Judging.{beginChecks, secondChecks, checksOf, acceptedAs, judged, perform, judgementOf}
 use Rattle.machine.specs.Settling.{latched}
 use Rattle.machine.specs.Cycles.{turnOf, cycleOf}
-
-positive : (k : ℕ) → T (leb 1 k) → k ≡ 0 → ⊥
-positive k t e = let h : T (leb 1 0) = rw e at t in absurd h
 
 -- a word's number is 0, 7, 8 or 9
 by-number : (P : ℕ → Type 0) → P 0 → P 7 → P 8 → P 9 → (w : ℕ) → P (decodeOf w .number)
