@@ -19,3 +19,14 @@ refused k = record { number = k; value = none }
 -- a number that the checks gave, with the value that stands if they gave none
 abbrev pub tells : {A : Type 0} → ℕ → A → Tells A
 tells k x = pick (eqb k 0) (accepted x) (refused k)
+
+-- what an answer tells whose refusal may name a place: the index of a cycle or of a block, 0 where there is none
+pub record Placed (A : Type 0) : Type 0 where
+  pub told : Tells A
+  pub index : ℕ
+
+abbrev pub acceptedWhole : {A : Type 0} → A → Placed A
+acceptedWhole x = record { told = accepted x; index = 0 }
+
+abbrev pub refusedAt : {A : Type 0} → ℕ → ℕ → Placed A
+refusedAt k i = record { told = refused k; index = i }

@@ -26,22 +26,18 @@ use Rattle.machine.specs.declared.Effect.{Effect}
 use Rattle.machine.specs.Pins.{ienHigh, bothLow}
 use Rattle.machine.specs.Seeing.{viewOf}
 use Rattle.machine.specs.Acting.{outcomeFor, effectOf}
-use Rattle.machine.specs.Settling.{withWaiting, ramAfter, accAfter, settledOf}
+use Rattle.machine.specs.Settling.{withWaiting, upperByte, ramAfter, accAfter, settledOf}
 use Rattle.machine.specs.Cycles.{effectFrom}
 
--- the upper byte of a word
-abbrev pub upper : ℕ → ℕ
-upper x = x / 256
-
-ram-upper : (d : Destination) (k y : ℕ) (ram : List ℕ) → map upper (ramAfter d Byte k y ram) ≡ map upper ram
+ram-upper : (d : Destination) (k y : ℕ) (ram : List ℕ) → map upperByte (ramAfter d Byte k y ram) ≡ map upperByte ram
 ram-upper ToY k y ram = refl
 ram-upper ToAcc k y ram = refl
 ram-upper ToRam k y ram =
-    map-set-same upper ram (k % 32) (writeBack 8 (getD ram (k % 32) 0) y) 0 (written-high 8 (getD ram (k % 32) 0) y)
+    map-set-same upperByte ram (k % 32) (writeBack 8 (getD ram (k % 32) 0) y) 0 (written-high 8 (getD ram (k % 32) 0) y)
 ram-upper ToStatus k y ram = refl
 ram-upper ToAccAndStatus k y ram = refl
 
-acc-upper : (d : Destination) (y acc : ℕ) → upper (accAfter d Byte y acc) ≡ upper acc
+acc-upper : (d : Destination) (y acc : ℕ) → upperByte (accAfter d Byte y acc) ≡ upperByte acc
 acc-upper ToY y acc = refl
 acc-upper ToAcc y acc = written-high 8 acc y
 acc-upper ToRam y acc = refl
@@ -50,19 +46,19 @@ acc-upper ToAccAndStatus y acc = written-high 8 acc y
 
 -- in byte mode the upper byte of every RAM word and of ACC stays
 module _ (k : ℕ) (r : Registers) (e : Effect) (pins : ℕ) where
-  pub byte-keeps-ram : map upper (settledOf Byte k r e pins .ram) ≡ map upper (r .ram)
+  pub byte-keeps-ram : map upperByte (settledOf Byte k r e pins .ram) ≡ map upperByte (r .ram)
   unfolding settledOf
   byte-keeps-ram = by-test (ienHigh pins)
     where
-      by-test : (b : Bool) → map upper (pick b (r .ram) (ramAfter (e .destination) Byte k (e .result) (r .ram))) ≡ map upper (r .ram)
+      by-test : (b : Bool) → map upperByte (pick b (r .ram) (ramAfter (e .destination) Byte k (e .result) (r .ram))) ≡ map upperByte (r .ram)
       by-test true = refl
       by-test false = ram-upper (e .destination) k (e .result) (r .ram)
 
-  pub byte-keeps-acc : upper (settledOf Byte k r e pins .acc) ≡ upper (r .acc)
+  pub byte-keeps-acc : upperByte (settledOf Byte k r e pins .acc) ≡ upperByte (r .acc)
   unfolding settledOf
   byte-keeps-acc = by-test (ienHigh pins)
     where
-      by-test : (b : Bool) → upper (pick b (r .acc) (accAfter (e .destination) Byte (e .result) (r .acc))) ≡ upper (r .acc)
+      by-test : (b : Bool) → upperByte (pick b (r .acc) (accAfter (e .destination) Byte (e .result) (r .acc))) ≡ upperByte (r .acc)
       by-test true = refl
       by-test false = acc-upper (e .destination) (e .result) (r .acc)
 

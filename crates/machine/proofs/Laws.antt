@@ -1,6 +1,7 @@
 -- What holds of every cycle.
 use mathlib.Core.Path.{_≡_, refl, _∙_, sym, ap}
 use mathlib.Core.Bool.{Bool, true, false}
+use mathlib.Core.Option.{some, Option·some-injective, Option·some-ne-none}
 use Prim.Native.Nat.{ℕ, _+_, _%_}
 use native.Mathlib.Omega.{arith}
 use borrow.Author.Tests.{eqb-true, ne-eqb}
@@ -13,8 +14,6 @@ use Rattle.machine.specs.declared.Waiting.the-variants.{Nothing, Held}
 use Rattle.machine.specs.declared.Registers.{Registers}
 use Rattle.machine.specs.declared.Machine.{Machine}
 use Rattle.machine.specs.declared.Words.{Words}
-use Rattle.machine.specs.declared.Completed.{Completed}
-use Rattle.machine.specs.declared.Completed.the-variants.{NoInstruction, Instruction}
 use Rattle.machine.specs.declared.Report.{Report}
 use Rattle.machine.specs.declared.Answer.{Answer}
 use Rattle.machine.specs.declared.Turn.{Turn}
@@ -24,7 +23,7 @@ use Rattle.machine.specs.declared.Judgement.the-variants.{Refuse, Wait, 
 use Rattle.machine.specs.Pins.{ienHigh, bothLow}
 use Rattle.machine.specs.Judging.{judgementOf, mayStart}
 use Rattle.machine.specs.Settling.{latched, withWaiting, ramAfter, accAfter, settledOf}
-use Rattle.machine.specs.Cycles.{Turned, machineOf, turnOf, cycleOf, answerTells, turnTells}
+use Rattle.machine.specs.Cycles.{Turned, machineOf, turnOf, cycleOf, answerTells, turnTells, completions}
 
 -- the judgement of a cycle, and the registers that it works on
 module _ (m : Machine) (c : Words) where
@@ -44,16 +43,22 @@ module _ (m : Machine) (c : Words) where
   unfolding cycleOf
   refused-unchanged k e = refused-by judgement k e
 
+  -- an answer that has a report is an accepted one
+  reported-by : (j : Judgement) (r : Report) → turnOf j m before c .answer .value ≡ some r → turnOf j m before c .answer ≡ accepted r
+  reported-by (Refuse k) r e = absurd (Option·some-ne-none r (sym e))
+  reported-by Wait r e = ap accepted (Option·some-injective _ r e)
+  reported-by (Perform n p immediate) r e = ap accepted (Option·some-injective _ r e)
+
+  pub reported-accepted : (r : Report) → cycleOf m c .answer .value ≡ some r → cycleOf m c .answer ≡ accepted r
+  unfolding cycleOf
+  reported-accepted r e = reported-by judgement r e
+
   -- a first immediate cycle changes only the waiting word, and D by DLE
   pub wait-changes : judgement ≡ Wait → cycleOf m c .machine ≡ machineOf (withWaiting before (Held (c .lines)))
   unfolding cycleOf
   wait-changes e = ap (λ (j : Judgement). turnOf j m before c .machine) e
 
--- how many instructions a cycle completed, and how many words wait
-abbrev pub completions : Completed → ℕ
-completions NoInstruction = 0
-completions (Instruction n) = 1
-
+-- how many words wait
 abbrev pub waitingWords : Waiting → ℕ
 waitingWords Nothing = 0
 waitingWords (Held w) = 1

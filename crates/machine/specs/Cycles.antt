@@ -9,6 +9,7 @@ use Rattle.machine.specs.declared.Waiting.the-variants.{Held}
 use Rattle.machine.specs.declared.Registers.{Registers}
 use Rattle.machine.specs.declared.Machine.{Machine}
 use Rattle.machine.specs.declared.Words.{Words}
+use Rattle.machine.specs.declared.Completed.{Completed}
 use Rattle.machine.specs.declared.Completed.the-variants.{NoInstruction, Instruction}
 use Rattle.machine.specs.declared.Report.{Report}
 use Rattle.machine.specs.declared.Answer.{Answer}
@@ -84,3 +85,8 @@ answerTells (Answer.Refused k) = refused k
 
 abbrev pub turnTells : Turn → Turned
 turnTells t = record { machine = t .machine; answer = answerTells (t .answer) }
+
+-- how many instructions a cycle completed (document 01, runs): a waiting cycle none, every other one
+abbrev pub completions : Completed → ℕ
+completions NoInstruction = 0
+completions (Instruction n) = 1

@@ -1,5 +1,5 @@
 -- What is written: the only place where a register changes.
-use Prim.Native.Nat.{ℕ, _%_}
+use Prim.Native.Nat.{ℕ, _/_, _%_}
 use mathlib.Core.List.{List}
 use lib.ListN.{getD, set}
 use Rattle.choice.specs.Pick.{pick}
@@ -19,6 +19,10 @@ latched r input pins = record { ram = r .ram; acc = r .acc; latch = pick (dleHig
 
 abbrev pub withWaiting : Registers → Waiting → Registers
 withWaiting r w = record { ram = r .ram; acc = r .acc; latch = r .latch; status = r .status; waiting = w }
+
+-- what byte mode keeps of a word
+abbrev pub upperByte : ℕ → ℕ
+upperByte x = x / 256
 
 -- a result in register k; the part above the width stays
 abbrev pub ramAfter : Destination → Mode → ℕ → ℕ → List ℕ → List ℕ

@@ -1,0 +1,6 @@
+pub mod Stored
+pub mod Courses
+pub mod Loop
+pub mod Starting
+pub mod Joined
+pub mod Laws

@@ -1,0 +1,62 @@
+-- The refusals of a whole run: what holds where none is given, and each number exactly when.
+use mathlib.Core.Path.{_≡_, refl, sym, ap, _∙_}
+use mathlib.Core.Bool.{Bool, true, false, not}
+use mathlib.Core.List.{List, [], _∷_}
+use mathlib.Core.Logic.{_↔_}
+use Prim.Native.Nat.{ℕ, _*_, _%_, _≤_, _<_}
+use native.Mathlib.Omega.{arith}
+use lib.Dec.{T, eqb, ltb}
+use borrow.Author.Tests.{eqb-true, ltb-false}
+use Rattle.choice.specs.Checks.{Check, check, refusal, clear}
+use Rattle.choice.proofs.Checks.{positive, cleared, exactly}
+use Rattle.choice.proofs.Spans.{never}
+use Rattle.machine.specs.declared.Waiting.{Waiting}
+use Rattle.machine.specs.Judging.{mayStart}
+use Rattle.run.specs.Splitting.{wordsPerCycle, cyclesIn, wordsPerReport}
+use Rattle.run.specs.Runs.{mostCycles, startChecks}
+
+not-false : (b : Bool) → not b ≡ false → b ≡ true
+not-false true e = refl
+not-false false e = absurd (never (sym e))
+
+-- by the word that waits, the number of words and the room
+module _ (waiting : Waiting) (words room : ℕ) where
+  abbrev uneven : Bool
+  uneven = not (eqb (words % wordsPerCycle) 0)
+
+  abbrev many : Bool
+  many = ltb mostCycles (cyclesIn words)
+
+  abbrev short : Bool
+  short = ltb room (wordsPerReport * cyclesIn words)
+
+  abbrev unfit : Bool
+  unfit = not (mayStart waiting)
+
+  abbrev given : ℕ
+  given = refusal (startChecks waiting words room)
+
+  -- a run that is not refused as a whole: whole cycles, not too many, and room for all their reports
+  pub starts : given ≡ 0 → (cyclesIn words * wordsPerCycle ≡ words) × (cyclesIn words ≤ mostCycles) × (wordsPerReport * cyclesIn words ≤ room)
+  starts e =
+      let one = cleared 1 uneven (check 2 many ∷ check 3 short ∷ check 4 unfit ∷ []) (positive 1 tt) e in
+      let two = cleared 2 many (check 3 short ∷ check 4 unfit ∷ []) (positive 2 tt) (one .1) in
+      let three = cleared 3 short (check 4 unfit ∷ []) (positive 3 tt) (two .1) in
+      let even : words % wordsPerCycle ≡ 0 = eqb-true (words % wordsPerCycle) 0 (not-false (eqb (words % wordsPerCycle) 0) (one .0)) in
+      (omega (arith, even), ltb-false mostCycles (cyclesIn words) (two .0), ltb-false room (wordsPerReport * cyclesIn words) (three .0))
+
+  -- 1: the words are no multiple of 3
+  pub start-one : (given ≡ 1) ↔ (Unit {0} × (uneven ≡ true))
+  start-one = exactly 1 uneven (check 2 many ∷ check 3 short ∷ check 4 unfit ∷ []) (positive 1 tt) tt [] tt
+
+  -- 2: over 4,096 cycles
+  pub start-two : (given ≡ 2) ↔ (T (clear (check 1 uneven ∷ [])) × (many ≡ true))
+  start-two = exactly 2 many (check 3 short ∷ check 4 unfit ∷ []) (positive 2 tt) tt (check 1 uneven ∷ []) tt
+
+  -- 3: the room is too short for the reports of the whole input
+  pub start-three : (given ≡ 3) ↔ (T (clear (check 1 uneven ∷ check 2 many ∷ [])) × (short ≡ true))
+  start-three = exactly 3 short (check 4 unfit ∷ []) (positive 3 tt) tt (check 1 uneven ∷ check 2 many ∷ []) tt
+
+  -- 4: a word waits that is not an accepted one with an I operand
+  pub start-four : (given ≡ 4) ↔ (T (clear (check 1 uneven ∷ check 2 many ∷ check 3 short ∷ [])) × (unfit ≡ true))
+  start-four = exactly 4 unfit [] (positive 4 tt) tt (check 1 uneven ∷ check 2 many ∷ check 3 short ∷ []) tt

@@ -1,0 +1,4 @@
+pub mod Splitting
+pub mod Courses
+pub mod Runs
+pub mod Following

@@ -1,0 +1,158 @@
+// A run of the machine: cycles from a lent slice of words, reports into a lent slice, and one answer.
+use machine::Answer;
+use machine::Completed;
+use machine::Machine;
+use machine::Report;
+use machine::Waiting;
+use machine::Words;
+ghost use mathlib.Core.Path.{_≡_};
+ghost use mathlib.Core.List.{[], _∷_};
+ghost use Prim.Native.Nat.{_+_, _*_, _/_, _≤_, _<_};
+ghost use lib.ListN.{length};
+ghost use lib.Seq.{sets};
+ghost use Rattle.choice.specs.Checks.{refusal};
+ghost use Rattle.machine.specs.Cycles.{completions};
+ghost use Rattle.run.specs.Splitting.{wordsPerCycle, wordsPerReport, cycleAt, cyclesIn, cyclesOf, reportWords};
+ghost use Rattle.run.specs.Courses.{runFrom};
+ghost use Rattle.run.specs.Runs.{mostCycles, startChecks, runOf, Gives};
+
+// The words of a cycle, and of a report.
+const WORDS_PER_CYCLE: usize = 3;
+
+const WORDS_PER_REPORT: usize = 4;
+
+// The most cycles of a run.
+const MOST_CYCLES: usize = 4096;
+
+// How a run ends. A refusal has its number, and the index of the cycle or 0.
+pub enum Ending {
+    Done,
+    Stopped,
+    Refused(u8, usize),
+}
+
+pub struct Ran {
+    pub machine: Machine,
+    pub ending: Ending,
+    pub accepted: usize,
+    pub completed: usize,
+}
+
+// The number of the refusal of a whole run, or 0.
+fn start_refusal(waiting: Waiting, words: usize, room: usize) -> u8
+    ensures { λ r. ⌜ r ≡ refusal (startChecks waiting words room) ⌝ }
+{
+    if words % WORDS_PER_CYCLE != 0 {
+        return 1;
+    }
+    let cycles = words / WORDS_PER_CYCLE;
+    if MOST_CYCLES < cycles {
+        return 2;
+    }
+    if room < WORDS_PER_REPORT * cycles {
+        return 3;
+    }
+    if machine::may_start(waiting) { 0 } else { 4 }
+}
+
+// Cycle i of the words.
+fn cycle_at(words: &[u16], i: usize) -> Words
+    requires { ⌜ wordsPerCycle * i + wordsPerCycle ≤ length (now words) ⌝ }
+    ensures { λ r. ⌜ r ≡ cycleAt (now (words .entry)) i ⌝ }
+{
+    let at = WORDS_PER_CYCLE * i;
+    Words {
+        lines: words[at],
+        input: words[at + 1],
+        pins: words[at + 2],
+    }
+}
+
+// The report of cycle i, in its place.
+fn put(reports: &mut [u16], i: usize, report: Report)
+    requires { ⌜ wordsPerReport * i + wordsPerReport ≤ length (now reports) ⌝ }
+    ensures { λ _. ⌜ now (reports .exit) ≡ sets (now (reports .entry)) (wordsPerReport * i) (reportWords report) ⌝ }
+{
+    let at = WORDS_PER_REPORT * i;
+    reports[at] = report.y;
+    reports[at + 1] = report.mask;
+    reports[at + 2] = report.ct as u16;
+    reports[at + 3] = report.t as u16;
+}
+
+// A waiting cycle completes no instruction.
+fn instructions(completed: Completed) -> usize
+    ensures { λ r. ⌜ r ≡ completions completed ⌝ }
+{
+    match completed {
+        Completed::NoInstruction => 0,
+        Completed::Instruction(_) => 1,
+    }
+}
+
+// The cycles one after another, once the run as a whole is accepted.
+fn run_cycles(machine: Machine, words: &[u16], budget: u64, reports: &mut [u16]) -> Ran
+    requires { ⌜ (cyclesIn (length (now words)) * wordsPerCycle ≡ length (now words)) × (cyclesIn (length (now words)) ≤ mostCycles) × (wordsPerReport * cyclesIn (length (now words)) ≤ length (now reports)) ⌝ }
+    ensures { λ r. ⌜ Gives machine (runFrom machine budget (cyclesOf (now (words .entry)))) r (now (reports .entry)) (now (reports .exit)) ⌝ }
+{
+    let cycles = words.len() / WORDS_PER_CYCLE;
+    let mut state = machine;
+    let mut left = budget;
+    let mut completed: usize = 0;
+    let mut i: usize = 0;
+    while i < cycles {
+        if left == 0 {
+            return Ran {
+                machine: state,
+                ending: Ending::Stopped,
+                accepted: i,
+                completed: completed,
+            };
+        }
+        let turn = machine::cycle(state, cycle_at(words, i));
+        let answer = turn.answer;
+        match answer {
+            Answer::Refused(number) => {
+                return Ran {
+                    machine: state,
+                    ending: Ending::Refused(number, i),
+                    accepted: i,
+                    completed: completed,
+                };
+            }
+            Answer::Accepted(report) => {
+                put(reports, i, report);
+                let next = turn.machine;
+                let what = report.completed;
+                state = next;
+                completed = completed + instructions(what);
+                left = left - 1;
+                i = i + 1;
+            }
+        }
+    }
+    Ran {
+        machine: state,
+        ending: Ending::Done,
+        accepted: i,
+        completed: completed,
+    }
+}
+
+// A run: at most 4,096 cycles of three words, a budget that is a number of cycles, and four words of room for each report.
+pub fn run(machine: Machine, words: &[u16], budget: u64, reports: &mut [u16]) -> Ran
+    ensures { λ r. ⌜ Gives machine (runOf machine (now (words .entry)) budget (length (now (reports .entry)))) r (now (reports .entry)) (now (reports .exit)) ⌝ }
+{
+    let registers = machine.registers;
+    let waiting = registers.waiting;
+    let number = start_refusal(waiting, words.len(), reports.len());
+    if number != 0 {
+        return Ran {
+            machine: machine,
+            ending: Ending::Refused(number, 0),
+            accepted: 0,
+            completed: 0,
+        };
+    }
+    run_cycles(machine, words, budget, reports)
+}
