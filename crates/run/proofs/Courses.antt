@@ -1,13 +1,13 @@
 -- Courses put together: steps before a course, and what is read off them.
 use mathlib.Core.Path.{_≡_, refl, sym, ap, _∙_}
-use mathlib.Core.List.{List, [], _∷_, _++_, append-assoc, append-nil}
+use mathlib.Core.List.{List, [], _∷_, _++_, append-assoc}
+use mathlib.Core.Option.{Option, none, some}
 use Prim.Native.Nat.{ℕ, zero, suc, _+_, _*_, _-_, _≤_, _<_}
-use native.Mathlib.Nat.{add-assoc, add-zero, zero-add}
+use native.Mathlib.Nat.{add-assoc, zero-add}
 use native.Mathlib.Omega.{arith}
-use lib.ListN.{length, length-append}
+use lib.ListN.{length}
 use Rattle.choice.specs.Tells.{Tells, accepted, refused}
 use Rattle.machine.specs.declared.Machine.{Machine}
-use Rattle.machine.specs.declared.Words.{Words}
 use Rattle.machine.specs.declared.Report.{Report}
 use Rattle.machine.specs.declared.Completed.{Completed}
 use Rattle.machine.specs.declared.Completed.the-variants.{NoInstruction, Instruction}
@@ -68,3 +68,22 @@ module _ (m : Machine) (rest : Course) where
 
   pub refused-then : (answer : Tells Report) (k : ℕ) → answer ≡ refused k → turnThen answer m rest ≡ closing (refused k)
   refused-then answer k e = ap (λ (a : Tells Report). turnThen a m rest) e
+
+-- no more steps than cycles, and than the budget
+turn-length : (answer : Tells Report) (m : Machine) (rest : Course) → length (turnThen answer m rest .steps) ≤ suc (length (rest .steps))
+turn-length answer m rest = by-value (answer .value)
+  where
+    by-value : (v : Option Report) → length (turnThen (record { number = answer .number; value = v }) m rest .steps) ≤ suc (length (rest .steps))
+    by-value (some r) = omega arith
+    by-value none = omega arith
+
+pub steps-le : (m : Machine) (budget : ℕ) (words : List ℕ) (i n : ℕ)
+    → (length (runFrom m budget (cyclesFrom words i n) .steps) ≤ n) × (length (runFrom m budget (cyclesFrom words i n) .steps) ≤ budget)
+unfolding runFrom
+steps-le m budget words i zero = (omega arith, omega arith)
+steps-le m zero words i (suc n) = (omega arith, omega arith)
+steps-le m (suc budget) words i (suc n) =
+    let c = cycleAt words i in
+    let h = turn-length (cycleOf m c .answer) (cycleOf m c .machine) (runFrom (cycleOf m c .machine) budget (cyclesFrom words (i + 1) n)) in
+    let l = steps-le (cycleOf m c .machine) budget words (i + 1) n in
+    (omega (arith, h, l .0), omega (arith, h, l .1))

@@ -1,17 +1,17 @@
 -- Runs put together: over appended cycles, and with a longer budget.
-use mathlib.Core.Path.{_≡_, refl, sym, ap, _∙_}
+use mathlib.Core.Path.{_≡_, refl, ap, _∙_}
 use mathlib.Core.List.{List, [], _∷_, _++_}
 use mathlib.Core.Option.{Option, none, some}
 use Prim.Native.Nat.{ℕ, zero, suc, _+_, _-_}
 use native.Mathlib.Nat.{zero-add}
 use native.Mathlib.Omega.{arith}
 use lib.ListN.{length, take, drop}
-use Rattle.choice.specs.Tells.{Tells, accepted, refused}
+use Rattle.choice.specs.Tells.{Tells}
 use Rattle.machine.specs.declared.Machine.{Machine}
 use Rattle.machine.specs.declared.Words.{Words}
 use Rattle.machine.specs.declared.Report.{Report}
 use Rattle.machine.specs.Cycles.{cycleOf}
-use Rattle.run.specs.Courses.{Step, Finish, done, stopped, Course, closing, stepThen, turnThen, runFrom, machineAfter}
+use Rattle.run.specs.Courses.{Step, Finish, done, stopped, Course, stepThen, turnThen, runFrom, machineAfter}
 use Rattle.run.proofs.Courses.{preceded}
 
 -- the first where a course finished so, else the second

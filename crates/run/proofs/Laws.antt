@@ -1,24 +1,24 @@
 -- What a run gives, cycle by cycle; and that no two outcomes satisfy the call's statement.
 use mathlib.Core.Path.{_≡_, refl, sym, ap, _∙_, subst, subst⁻¹}
 use mathlib.Core.Bool.{true, false}
-use mathlib.Core.List.{List, [], _∷_, _++_}
+use mathlib.Core.List.{List, [], _∷_}
 use mathlib.Core.Option.{Option, none, some}
-use Prim.Native.Nat.{ℕ, zero, suc, _+_, _*_, _-_, _≤_, _<_}
+use Prim.Native.Nat.{ℕ, zero, suc, _+_, _*_, _<_}
 use native.Mathlib.Nat.{zero-add, add-zero, add-assoc}
 use native.Mathlib.Omega.{arith}
 use lib.Dec.{T}
 use lib.ListN.{length, take, drop}
-use Rattle.choice.specs.Tells.{Tells, accepted, refused, Placed, acceptedWhole, refusedAt}
-use Rattle.choice.proofs.Tells.{accepted-one, refused-one, accepted-refused}
+use Rattle.choice.specs.Tells.{Tells, accepted, Placed}
+use Rattle.choice.proofs.Tells.{accepted-one, accepted-refused}
 use Rattle.machine.specs.declared.Machine.{Machine}
 use Rattle.machine.specs.declared.Report.{Report}
-use Rattle.machine.specs.Cycles.{Turned, cycleOf, completions}
+use Rattle.machine.specs.Cycles.{Turned, completions}
 use Rattle.machine.proofs.Laws.{reported-accepted}
 use Rattle.run.specs.declared.Ending.{Ending}
 use Rattle.run.specs.declared.Ending.the-variants.{Done, Stopped, Refused}
 use Rattle.run.specs.declared.Ran.{Ran}
-use Rattle.run.specs.Splitting.{cycleAt, cyclesFrom, wordsPerReport, reportWords}
-use Rattle.run.specs.Courses.{Step, Finish, done, stopped, Course, closing, turnThen, runFrom, machineAfter, completedIn, reportsOf}
+use Rattle.run.specs.Splitting.{cycleAt, cyclesFrom, wordsPerReport}
+use Rattle.run.specs.Courses.{Step, Finish, done, stopped, Course, turnThen, runFrom, machineAfter, completedIn, reportsOf}
 use Rattle.run.specs.Runs.{Summary, endingTells, ranTells, Gives}
 use Rattle.run.specs.Following.{machineAt, turnAt, answerWords, answerCompletions, completedBefore, Ends, CycleByCycle}
 
@@ -142,7 +142,7 @@ module _ (m : Machine) (words : List ℕ) where
       }
 
 -- what a run tells fixes its answer
-ending-one : (x y : Ending) → endingTells x ≡ endingTells y → x ≡ y
+pub ending-one : (x y : Ending) → endingTells x ≡ endingTells y → x ≡ y
 ending-one Done Done e = refl
 ending-one Stopped Stopped e = refl
 ending-one (Refused j a) (Refused k b) e =

@@ -5,7 +5,7 @@ use Prim.Native.Nat.{ℕ, suc, _+_, _*_, _-_, _≤_, _<_}
 use native.Mathlib.Nat.{add-zero}
 use native.Mathlib.Omega.{arith}
 use lib.ListN.{length, take, drop, take-append-drop, length-append}
-use lib.Seq.{sets, length-sets, drop-drop, length-take-le}
+use lib.Seq.{sets, length-sets, drop-drop}
 use Rattle.choice.specs.Tells.{Tells, accepted, refused, Placed}
 use Rattle.machine.specs.declared.Machine.{Machine}
 use Rattle.machine.specs.declared.Report.{Report}

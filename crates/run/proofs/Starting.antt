@@ -1,13 +1,13 @@
 -- The refusals of a whole run: what holds where none is given, and each number exactly when.
-use mathlib.Core.Path.{_≡_, refl, sym, ap, _∙_}
+use mathlib.Core.Path.{_≡_, refl, sym}
 use mathlib.Core.Bool.{Bool, true, false, not}
-use mathlib.Core.List.{List, [], _∷_}
+use mathlib.Core.List.{[], _∷_}
 use mathlib.Core.Logic.{_↔_}
-use Prim.Native.Nat.{ℕ, _*_, _%_, _≤_, _<_}
+use Prim.Native.Nat.{ℕ, _*_, _%_, _≤_}
 use native.Mathlib.Omega.{arith}
 use lib.Dec.{T, eqb, ltb}
 use borrow.Author.Tests.{eqb-true, ltb-false}
-use Rattle.choice.specs.Checks.{Check, check, refusal, clear}
+use Rattle.choice.specs.Checks.{check, refusal, clear}
 use Rattle.choice.proofs.Checks.{positive, cleared, exactly}
 use Rattle.choice.proofs.Spans.{never}
 use Rattle.machine.specs.declared.Waiting.{Waiting}

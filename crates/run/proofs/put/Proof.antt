@@ -1,3 +1,4 @@
+-- `run::put` meets its contract: four words are stored one after another.
 use Prim.Native.Nat.{suc, _+_, _*_}
 use lib.ListN.{length-set}
 use native.Mathlib.Omega.{arith}
@@ -5,70 +6,52 @@ use mathlib.Core.Path.{_≡_}
 use borrow.Author.Needs.{needs}
 use Rattle.run.proofs.put.Statement.{statement}
 use Rattle.run.proofs.put.Tie as tie
-use Rattle.run.proofs.put.Reads as reads
-use Rattle.run.proofs.put.Lts as lts
 
--- src/lib.rt:75:14
 mul-at : tie.Need-mul-at
 mul-at c = search needs
 
--- src/lib.rt:76:5
 mul-reports : tie.Need-mul-reports
 mul-reports c = search needs
 
--- src/lib.rt:76:5
 slice-write-reports : tie.Need-slice-write-reports
 slice-write-reports c = search needs
 
--- src/lib.rt:77:13
 add-reports : tie.Need-add-reports
 add-reports c = search needs
 
--- src/lib.rt:77:5
 mul-reports-2 : tie.Need-mul-reports-2
 mul-reports-2 c = search needs
 
--- src/lib.rt:77:5
 slice-write-reports-2 : tie.Need-slice-write-reports-2
 slice-write-reports-2 c = simp length-set (omega arith)
 
--- src/lib.rt:78:23
 cast-reports : tie.Need-cast-reports
 cast-reports c = search needs
 
--- src/lib.rt:78:13
 add-reports-2 : tie.Need-add-reports-2
 add-reports-2 c = search needs
 
--- src/lib.rt:78:5
 mul-reports-3 : tie.Need-mul-reports-3
 mul-reports-3 c = search needs
 
--- src/lib.rt:78:5
 slice-write-reports-3 : tie.Need-slice-write-reports-3
 slice-write-reports-3 c = simp length-set (omega arith)
 
--- src/lib.rt:79:23
 cast-reports-2 : tie.Need-cast-reports-2
 cast-reports-2 c = search needs
 
--- src/lib.rt:79:13
 add-reports-3 : tie.Need-add-reports-3
 add-reports-3 c = search needs
 
--- src/lib.rt:79:5
 mul-reports-4 : tie.Need-mul-reports-4
 mul-reports-4 c = search needs
 
--- src/lib.rt:79:5
 slice-write-reports-4 : tie.Need-slice-write-reports-4
 slice-write-reports-4 c = simp length-set (omega arith)
 
--- src/lib.rt:71:1
 same-length : tie.Need-same-length
 same-length c = search needs
 
--- src/lib.rt:71:1
 returns : tie.Need-returns
 returns c =
     let at = 4 * c .before .before .args .i in
