@@ -1,0 +1,9 @@
+pub mod Filling
+pub mod Words
+pub mod Parts
+pub mod Sound
+pub mod Judged
+pub mod Copied
+pub mod Made
+pub mod Written
+pub mod Answered

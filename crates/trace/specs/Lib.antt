@@ -1,0 +1,6 @@
+pub mod Check
+pub mod Layout
+pub mod Blocks
+pub mod Answers
+pub mod Reading
+pub mod Writing
