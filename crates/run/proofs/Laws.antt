@@ -8,8 +8,8 @@ use native.Mathlib.Nat.{zero-add, add-zero, add-assoc}
 use native.Mathlib.Omega.{arith}
 use lib.Dec.{T}
 use lib.ListN.{length, take, drop}
-use Rattle.choice.specs.Tells.{Tells, accepted, Placed}
-use Rattle.choice.proofs.Tells.{accepted-one, accepted-refused}
+use Rattle.choice.specs.Tells.{Tells, accepted}
+use Rattle.choice.proofs.Tells.{whole-one, refused-at-one, whole-refused}
 use Rattle.machine.specs.declared.Machine.{Machine}
 use Rattle.machine.specs.declared.Report.{Report}
 use Rattle.machine.specs.Cycles.{Turned, completions}
@@ -146,13 +146,14 @@ pub ending-one : (x y : Ending) → endingTells x ≡ endingTells y → x ≡ y
 ending-one Done Done e = refl
 ending-one Stopped Stopped e = refl
 ending-one (Refused j a) (Refused k b) e =
-    ap (λ (n : ℕ). Refused n a) (ap (λ (p : Placed Finish). p .told .number) e) ∙ ap (Refused k) (ap (λ (p : Placed Finish). p .index) e)
-ending-one Done Stopped e = absurd (done-stopped (accepted-one done stopped (ap (λ (p : Placed Finish). p .told) e)))
-ending-one Stopped Done e = absurd (done-stopped (sym (accepted-one stopped done (ap (λ (p : Placed Finish). p .told) e))))
-ending-one Done (Refused k i) e = absurd (accepted-refused done k (ap (λ (p : Placed Finish). p .told) e))
-ending-one Stopped (Refused k i) e = absurd (accepted-refused stopped k (ap (λ (p : Placed Finish). p .told) e))
-ending-one (Refused k i) Done e = absurd (accepted-refused done k (sym (ap (λ (p : Placed Finish). p .told) e)))
-ending-one (Refused k i) Stopped e = absurd (accepted-refused stopped k (sym (ap (λ (p : Placed Finish). p .told) e)))
+    let both = refused-at-one j k a b e in
+    ap (λ (n : ℕ). Refused n a) (both .0) ∙ ap (Refused k) (both .1)
+ending-one Done Stopped e = absurd (done-stopped (whole-one done stopped e))
+ending-one Stopped Done e = absurd (done-stopped (sym (whole-one stopped done e)))
+ending-one Done (Refused k i) e = absurd (whole-refused done k i e)
+ending-one Stopped (Refused k i) e = absurd (whole-refused stopped k i e)
+ending-one (Refused k i) Done e = absurd (whole-refused done k i (sym e))
+ending-one (Refused k i) Stopped e = absurd (whole-refused stopped k i (sym e))
 
 pub ran-one : (r s : Ran) → ranTells r ≡ ranTells s → r ≡ s
 ran-one r s e =

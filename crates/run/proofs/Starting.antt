@@ -1,23 +1,18 @@
 -- The refusals of a whole run: what holds where none is given, and each number exactly when.
-use mathlib.Core.Path.{_≡_, refl, sym}
-use mathlib.Core.Bool.{Bool, true, false, not}
+use mathlib.Core.Path.{_≡_}
+use mathlib.Core.Bool.{Bool, true, not}
 use mathlib.Core.List.{[], _∷_}
 use mathlib.Core.Logic.{_↔_}
 use Prim.Native.Nat.{ℕ, _*_, _%_, _≤_}
 use native.Mathlib.Omega.{arith}
 use lib.Dec.{T, eqb, ltb}
-use borrow.Author.Tests.{eqb-true, ltb-false}
+use borrow.Author.Tests.{eqb-true, ltb-false, not-false}
 use Rattle.choice.specs.Checks.{check, refusal, clear}
 use Rattle.choice.proofs.Checks.{positive, cleared, exactly}
-use Rattle.choice.proofs.Spans.{never}
 use Rattle.machine.specs.declared.Waiting.{Waiting}
 use Rattle.machine.specs.Judging.{mayStart}
 use Rattle.run.specs.Splitting.{wordsPerCycle, cyclesIn, wordsPerReport}
 use Rattle.run.specs.Runs.{mostCycles, startChecks}
-
-not-false : (b : Bool) → not b ≡ false → b ≡ true
-not-false true e = refl
-not-false false e = absurd (never (sym e))
 
 -- by the word that waits, the number of words and the room
 module _ (waiting : Waiting) (words room : ℕ) where

@@ -1,16 +1,21 @@
--- The ways out of the reader and the writer.
+-- The ways out of the reader and the writer, and what an accepted answer says.
 use mathlib.Core.Path.{_≡_, sym, ap, _∙_}
-use mathlib.Core.List.{List, _++_}
+use mathlib.Core.Bool.{not}
+use mathlib.Core.List.{List, [], _∷_, _++_}
 use Prim.Native.Nat.{ℕ, _*_, _/_, _%_, _≤_, _<_}
+use lib.Dec.{eqb, ltb}
 use lib.ListN.{length, drop}
-use borrow.Author.Tests.{eq-eqb, ne-eqb, lt-ltb, le-ltb}
+use borrow.Author.Tests.{eqb-true, eq-eqb, ne-eqb, ltb-false, lt-ltb, le-ltb, not-false}
+use Rattle.choice.specs.Checks.{check, refusal}
+use Rattle.choice.proofs.Checks.{positive, cleared}
+use Rattle.choice.proofs.Tells.{whole-one}
 use Rattle.choice.specs.Tells.{Placed, acceptedWhole, refusedAt}
 use Rattle.trace.specs.declared.Filled.the-variants.{Accepted, Refused}
 use Rattle.trace.specs.Layout.{blockBytes}
 use Rattle.trace.specs.Answers.{leaves, Fills}
-use Rattle.trace.specs.Reading.{mostCycles, blocksFor, mostBlocks, traceBlocks, blockRefusals, afterBlocks, recordCount, readEnd, readOf}
-use Rattle.trace.specs.Writing.{writeOf}
-use Rattle.trace.proofs.Judged.{all-sound, one-refused}
+use Rattle.trace.specs.Reading.{mostCycles, blocksFor, mostBlocks, traceBlocks, blockRefusals, afterBlocks, recordCount, wholeChecks, endChecks, readEnd, readOf}
+use Rattle.trace.specs.Writing.{writeChecks, writeOf}
+use Rattle.trace.proofs.Judged.{all-sound, one-refused, sound-first}
 
 -- an answer and the lent output, by what the definition tells
 module _ {answer : Placed ℕ} {made before : List ℕ} where
@@ -46,8 +51,8 @@ module _ (w : ℕ) (t : List ℕ) (room : ℕ) where
       module _ (n : ℕ) (sound : judgement w t ≡ acceptedWhole n) where
         pub end-decides : readOf w t room ≡ readEnd w n room
         end-decides =
-            let all = all-sound (readEnd w (recordCount (traceBlocks t)) room) (blockRefusals w 0 (traceBlocks t)) 0 (recordCount (traceBlocks t)) n sound in
-            blocks-decide ∙ all .1 ∙ ap (λ (x : ℕ). readEnd w x room) (all .0)
+            let all = all-sound (blockRefusals w 0 (traceBlocks t)) 0 n (acceptedWhole (recordCount (traceBlocks t))) sound in
+            blocks-decide ∙ all .1 (readEnd w (recordCount (traceBlocks t)) room) ∙ ap (λ (x : ℕ). readEnd w x room) (whole-one (recordCount (traceBlocks t)) n (all .0))
 
         pub read-over : mostCycles < n → refusedAt 2 0 ≡ readOf w t room
         read-over h = rw (end-decides, lt-ltb mostCycles n h)
@@ -77,3 +82,43 @@ module _ (w n room : ℕ) where
       pub write-done : blocksFor n * blockBytes ≤ room → acceptedWhole (blocksFor n * blockBytes) ≡ writeOf w n room
       unfolding writeOf
       write-done h = rw (eq-eqb (n % w) 0 whole, le-ltb mostCycles (n / w) few, le-ltb room (blocksFor n * blockBytes) h)
+
+-- what an accepted answer says
+pub write-says : (w n room y : ℕ) → writeOf w n room ≡ acceptedWhole y
+    → (n % w ≡ 0) × (n / w ≤ mostCycles) × (blocksFor n * blockBytes ≤ room) × (blocksFor n * blockBytes ≡ y)
+unfolding writeOf
+write-says w n room y e =
+    let end = sound-first (refusal (writeChecks w n room)) 0 y (acceptedWhole (blocksFor n * blockBytes)) e in
+    let one = cleared 1 (not (eqb (n % w) 0)) (check 2 (ltb mostCycles (n / w)) ∷ check 3 (ltb room (blocksFor n * blockBytes)) ∷ []) (positive 1 tt) (end .0) in
+    let two = cleared 2 (ltb mostCycles (n / w)) (check 3 (ltb room (blocksFor n * blockBytes)) ∷ []) (positive 2 tt) (one .1) in
+    let three = cleared 3 (ltb room (blocksFor n * blockBytes)) [] (positive 3 tt) (two .1) in
+    (eqb-true (n % w) 0 (not-false (eqb (n % w) 0) (one .0)), ltb-false mostCycles (n / w) (two .0), ltb-false room (blocksFor n * blockBytes) (three .0), whole-one (blocksFor n * blockBytes) y (end .1))
+
+pub record ReadSays (w : ℕ) (t : List ℕ) (room y : ℕ) : Type 0 where
+  pub even : length t % blockBytes ≡ 0
+  pub blocks : length t / blockBytes ≤ mostBlocks w
+  pub sound : (other : Placed ℕ) → afterBlocks 0 (blockRefusals w 0 (traceBlocks t)) other ≡ other
+  pub few : recordCount (traceBlocks t) ≤ mostCycles
+  pub room-enough : w * recordCount (traceBlocks t) ≤ room
+  pub words : w * recordCount (traceBlocks t) ≡ y
+
+pub read-says : (w : ℕ) (t : List ℕ) (room y : ℕ) → readOf w t room ≡ acceptedWhole y → ReadSays w t room y
+unfolding readOf
+read-says w t room y e =
+    let n = recordCount (traceBlocks t) in
+    let numbers = blockRefusals w 0 (traceBlocks t) in
+    let whole = sound-first (refusal (wholeChecks w (length t))) 0 y (afterBlocks 0 numbers (readEnd w n room)) e in
+    let eleven = cleared 11 (not (eqb (length t % blockBytes) 0)) (check 2 (ltb (mostBlocks w) (length t / blockBytes)) ∷ []) (positive 11 tt) (whole .0) in
+    let many = cleared 2 (ltb (mostBlocks w) (length t / blockBytes)) [] (positive 2 tt) (eleven .1) in
+    let all = all-sound numbers 0 y (readEnd w n room) (whole .1) in
+    let end = sound-first (refusal (endChecks w n room)) 0 y (acceptedWhole (w * n)) (all .0) in
+    let two = cleared 2 (ltb mostCycles n) (check 3 (ltb room (w * n)) ∷ []) (positive 2 tt) (end .0) in
+    let three = cleared 3 (ltb room (w * n)) [] (positive 3 tt) (two .1) in
+    record {
+      even = eqb-true (length t % blockBytes) 0 (not-false (eqb (length t % blockBytes) 0) (eleven .0));
+      blocks = ltb-false (mostBlocks w) (length t / blockBytes) (many .0);
+      sound = all .1;
+      few = ltb-false mostCycles n (two .0);
+      room-enough = ltb-false room (w * n) (three .0);
+      words = whole-one (w * n) y (end .1);
+    }

@@ -7,3 +7,9 @@ pub mod Copied
 pub mod Made
 pub mod Written
 pub mod Answered
+pub mod Round
+pub mod Back
+pub mod Unique
+pub mod Trips
+pub mod Exactly
+pub mod Folded

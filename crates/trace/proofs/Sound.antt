@@ -1,5 +1,5 @@
 -- One block: the ways out of its judgement, and what a sound block is known for.
-use mathlib.Core.Path.{_≡_, refl, sym}
+use mathlib.Core.Path.{_≡_, refl}
 use mathlib.Core.Bool.{Bool, true, false, not}
 use mathlib.Core.List.{List, [], _∷_}
 use Prim.Native.Nat.{ℕ, _*_, _≤_}
@@ -7,24 +7,14 @@ use native.Mathlib.Omega.{arith}
 use native.Mathlib.Nat.{mul-div-le, mul-le-mul-left, le-trans}
 use lib.Dec.{eqb, leb}
 use lib.ListN.{length, getD, length-take, length-drop}
-use borrow.Author.Tests.{eqb-true, eqb-false, eq-eqb, ne-eqb, leb-true, le-leb}
+use borrow.Author.Tests.{eqb-true, eqb-false, eq-eqb, ne-eqb, leb-true, le-leb, not-true, not-false}
 use Rattle.choice.specs.Pick.{pick}
 use Rattle.choice.specs.Checks.{check}
 use Rattle.choice.proofs.Checks.{positive, cleared}
-use Rattle.choice.proofs.Spans.{never}
 use Rattle.trace.specs.Check.{checkOf}
 use Rattle.trace.specs.Layout.{part, fullCount, formByte, wordAt}
 use Rattle.trace.specs.Blocks.{countOf, countGood, recordsEnd, allZero, shapeGood, checkHeld, checkGood, blockRefusal, recordWords}
 use Rattle.trace.proofs.Words.{both-hold, length-words}
-
--- a test, by its opposite
-pub holds-not : (b : Bool) → not b ≡ false → b ≡ true
-holds-not true e = refl
-holds-not false e = absurd (never (sym e))
-
-pub fails-not : (b : Bool) → not b ≡ true → b ≡ false
-fails-not true e = absurd (never e)
-fails-not false e = refl
 
 -- no more records than a full block has are no more than 252 words
 pub count-fits : (w c : ℕ) → c ≤ fullCount w → w * c ≤ 252
@@ -56,16 +46,16 @@ count-is-good w left c p h f = by-test (eqb left 0) refl
 module _ (w left : ℕ) (block : List ℕ) (c : ℕ) (r : Bool) (er : r ≡ countGood w left c) (ec : c ≡ countOf block) where
   pub shape-no-count : not r ≡ true → false ≡ shapeGood w left block
   unfolding shapeGood
-  shape-no-count h = rw (← ec, ← er, fails-not r h)
+  shape-no-count h = rw (← ec, ← er, not-true r h)
 
   module _ (h : not r ≡ false) (form : ℕ) (em : form ≡ getD block 3 0) where
     pub shape-no-form : (form ≡ formByte w → ⊥) → false ≡ shapeGood w left block
     unfolding shapeGood
-    shape-no-form n = rw (← ec, ← er, holds-not r h, ← em, ne-eqb form (formByte w) n)
+    shape-no-form n = rw (← ec, ← er, not-false r h, ← em, ne-eqb form (formByte w) n)
 
     pub shape-rest : form ≡ formByte w → (z : Bool) → z ≡ allZero (part (recordsEnd w c) 510 block) → z ≡ shapeGood w left block
     unfolding shapeGood
-    shape-rest n z ez = rw (← ec, ← er, holds-not r h, ← em, eq-eqb form (formByte w) n, ← ez)
+    shape-rest n z ez = rw (← ec, ← er, not-false r h, ← em, eq-eqb form (formByte w) n, ← ez)
 
 pub check-good-is : (sum held : ℕ) (block : List ℕ) → sum ≡ checkOf (part 0 510 block) → held ≡ checkHeld block → eqb sum held ≡ checkGood block
 unfolding checkGood
@@ -75,16 +65,16 @@ check-good-is sum held block es eh = rw (es, eh)
 module _ (w k left : ℕ) (block : List ℕ) (r : Bool) (er : r ≡ checkGood block) where
   pub refusal-12 : not r ≡ true → 12 ≡ blockRefusal w k left block
   unfolding blockRefusal
-  refusal-12 h = rw (← er, fails-not r h)
+  refusal-12 h = rw (← er, not-true r h)
 
   module _ (h : not r ≡ false) (n : ℕ) (en : n ≡ wordAt block 0) where
     pub refusal-13 : (n ≡ k → ⊥) → 13 ≡ blockRefusal w k left block
     unfolding blockRefusal
-    refusal-13 d = rw (← er, holds-not r h, ← en, ne-eqb n k d)
+    refusal-13 d = rw (← er, not-false r h, ← en, ne-eqb n k d)
 
     pub refusal-rest : n ≡ k → (s : Bool) → s ≡ shapeGood w left block → pick s 0 14 ≡ blockRefusal w k left block
     unfolding blockRefusal
-    refusal-rest e s q = rw (← er, holds-not r h, ← en, eq-eqb n k e, ← q) (by-test s)
+    refusal-rest e s q = rw (← er, not-false r h, ← en, eq-eqb n k e, ← q) (by-test s)
       where
         by-test : (s : Bool) → _≡_ {A = ℕ} (pick s 0 14) (elim (not s) [ true ↦ 14 | false ↦ 0 ])
         by-test true = refl
@@ -98,7 +88,7 @@ module _ (w k left : ℕ) (block : List ℕ) (sound : blockRefusal w k left bloc
       let twelve = cleared 12 (not (checkGood block)) (check 13 (not (eqb (wordAt block 0) k)) ∷ check 14 (not (shapeGood w left block)) ∷ []) (positive 12 tt) sound in
       let thirteen = cleared 13 (not (eqb (wordAt block 0) k)) (check 14 (not (shapeGood w left block)) ∷ []) (positive 13 tt) (twelve .1) in
       let fourteen = cleared 14 (not (shapeGood w left block)) [] (positive 14 tt) (thirteen .1) in
-      (holds-not (checkGood block) (twelve .0), eqb-true (wordAt block 0) k (holds-not (eqb (wordAt block 0) k) (thirteen .0)), holds-not (shapeGood w left block) (fourteen .0))
+      (not-false (checkGood block) (twelve .0), eqb-true (wordAt block 0) k (not-false (eqb (wordAt block 0) k) (thirteen .0)), not-false (shapeGood w left block) (fourteen .0))
 
   pub sound-shape : (countGood w left (countOf block) ≡ true) × (getD block 3 0 ≡ formByte w) × (allZero (part (recordsEnd w (countOf block)) 510 block) ≡ true)
   unfolding shapeGood

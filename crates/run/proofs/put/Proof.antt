@@ -1,8 +1,8 @@
 -- `run::put` meets its contract: four words are stored one after another.
-use Prim.Native.Nat.{suc, _+_, _*_}
-use lib.ListN.{length-set}
-use native.Mathlib.Omega.{arith}
 use mathlib.Core.Path.{_≡_}
+use Prim.Native.Nat.{suc, _+_, _*_}
+use native.Mathlib.Omega.{arith}
+use lib.ListN.{length-set}
 use borrow.Author.Needs.{needs}
 use Rattle.run.proofs.put.Statement.{statement}
 use Rattle.run.proofs.put.Tie as tie

@@ -1,9 +1,9 @@
 -- `run::run` meets its contract: a refusal as a whole, or the cycles.
 use mathlib.Core.Path.{refl, sym, _∙_}
 use borrow.Author.Tests.{eq-eqb, ne-eqb}
+use borrow.Author.Needs.{needs}
 use Rattle.run.specs.Runs.{runOf}
 use Rattle.run.proofs.Starting.{starts}
-use borrow.Author.Needs.{needs}
 use Rattle.run.proofs.run.Statement.{statement}
 use Rattle.run.proofs.run.Tie as tie
 

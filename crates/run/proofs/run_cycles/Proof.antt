@@ -1,8 +1,8 @@
 -- `run::run_cycles` meets its contract: `Before` holds before each cycle, and each way out has its law in proofs/Loop.
 use mathlib.Core.Path.{ap, _∙_}
-use borrow.Author.Needs.{needs}
 use Prim.Native.Nat.{_-_}
 use native.Mathlib.Omega.{arith}
+use borrow.Author.Needs.{needs}
 use Rattle.machine.specs.Cycles.{cycleOf}
 use Rattle.run.proofs.Courses.{completions-le}
 use Rattle.run.proofs.Loop.{Before, begins, finishes, stops, refuses, again}

@@ -3,7 +3,8 @@ use mathlib.Core.Path.{sym, _∙_}
 use Prim.Native.Nat.{_≤_}
 use native.Mathlib.Omega.{arith}
 use borrow.Author.Needs.{needs}
-use Rattle.trace.proofs.Sound.{count-good-says, holds-not, shape-no-count, shape-no-form, shape-rest}
+use borrow.Author.Tests.{not-false}
+use Rattle.trace.proofs.Sound.{count-good-says, shape-no-count, shape-no-form, shape-rest}
 use Rattle.trace.proofs.judging.shape_good.Statement.{statement}
 use Rattle.trace.proofs.judging.shape_good.Tie as tie
 
@@ -45,13 +46,13 @@ add-end c = search needs
 sub-all-zero : tie.Need-sub-all-zero
 sub-all-zero c =
     let few : c .before .before .before .before .before .wide .result ≤ 84 =
-    count-good-says 3 (c .before .before .before .before .before .before .before .before .args .left) (c .before .before .before .before .before .wide .result) (sym (c .before .before .before .before .count-good .ensures) ∙ holds-not (c .before .before .before .before .count-good .result) (c .before .before .before .if1 .left)) .0 in
+    count-good-says 3 (c .before .before .before .before .before .before .before .before .args .left) (c .before .before .before .before .before .wide .result) (sym (c .before .before .before .before .count-good .ensures) ∙ not-false (c .before .before .before .before .count-good .result) (c .before .before .before .if1 .left)) .0 in
     omega arith
 
 part-all-zero-start : tie.Need-part-all-zero-start
 part-all-zero-start c =
     let few : c .before .before .before .before .before .wide .result ≤ 84 =
-    count-good-says 3 (c .before .before .before .before .before .before .before .before .args .left) (c .before .before .before .before .before .wide .result) (sym (c .before .before .before .before .count-good .ensures) ∙ holds-not (c .before .before .before .before .count-good .result) (c .before .before .before .if1 .left)) .0 in
+    count-good-says 3 (c .before .before .before .before .before .before .before .before .args .left) (c .before .before .before .before .before .wide .result) (sym (c .before .before .before .before .count-good .ensures) ∙ not-false (c .before .before .before .before .count-good .result) (c .before .before .before .if1 .left)) .0 in
     omega arith
 
 part-all-zero-end : tie.Need-part-all-zero-end
