@@ -1,4 +1,3 @@
-pub mod Filling
 pub mod Words
 pub mod Parts
 pub mod Sound

@@ -8,28 +8,12 @@ use lib.Dec.{leb}
 use lib.ListN.{length, take, drop, replicate, length-append, length-take, length-drop, length-replicate, drop-of-length-le}
 use lib.Seq.{take-all, take-at, drop-at, drop-drop}
 use borrow.Author.Tests.{leb-true, leb-false}
+use Rattle.choice.proofs.Filling.{middle-take, middle-long, middle-end}
 use Rattle.trace.specs.Check.{checkOf}
 use Rattle.trace.specs.Layout.{part, bytesOf, joined}
 use Rattle.trace.specs.Blocks.{headOf, bodyOf, sealed, blockOf}
 use Rattle.trace.specs.Writing.{blocksFrom}
 use Rattle.trace.proofs.Words.{length-bytes}
-
--- a part from a to e of xs, replaced by ys
-module _ (xs ys : List ℕ) (a e : ℕ) (le : a ≤ e) (fits : e ≤ length xs) (long : length ys ≡ e - a) where
-  front-long : length (take a xs ++ ys) ≡ e
-  front-long = simp (length-append, length-take) (omega arith)
-
-  middle-take : take e (take a xs ++ (ys ++ drop (e - a) (drop a xs))) ≡ take a xs ++ ys
-  middle-take = rw (← append-assoc (take a xs) ys (drop (e - a) (drop a xs))) (take-at (take a xs ++ ys) _ e front-long)
-
-  pub middle-long : length (take a xs ++ (ys ++ drop (e - a) (drop a xs))) ≡ length xs
-  middle-long = simp (length-append, length-take, length-drop) (omega arith)
-
--- a part up to the end
-middle-end : (xs ys : List ℕ) (a e : ℕ) → a ≤ e → length xs ≡ e → take a xs ++ (ys ++ drop (e - a) (drop a xs)) ≡ take a xs ++ ys
-middle-end xs ys a e le l =
-    let h : length (drop a xs) ≤ e - a = simp length-drop (omega arith) in
-    rw (drop-of-length-le (drop a xs) h, append-nil)
 
 -- the bytes of a block before its check: with the head in place, and with the words
 abbrev pub withHead : List ℕ → List ℕ → List ℕ

@@ -7,7 +7,7 @@ use lib.ListN.{length, take, drop, length-take, length-drop}
 use Rattle.trace.specs.Layout.{part, joined}
 use Rattle.trace.specs.Blocks.{blockOf}
 use Rattle.trace.specs.Writing.{blocksFrom}
-use Rattle.trace.proofs.Filling.{turn-part, turned}
+use Rattle.choice.proofs.Filling.{turn-part, turned}
 use Rattle.trace.proofs.Made.{made-long, made-step}
 
 -- the bytes of the blocks from k on

@@ -1,4 +1,4 @@
--- A list that a loop fills from the front: what was put before a place, and what is still as it was after it.
+-- A list that is filled from the front, or in parts: what was put before a place, and what is still as it was after it.
 use mathlib.Core.Path.{_≡_}
 use mathlib.Core.List.{List, [], _++_, append-nil, append-assoc}
 use Prim.Native.Nat.{ℕ, _+_, _-_, _≤_}
@@ -62,3 +62,20 @@ module _ {A : Type 0} where
   -- the end of such a loop
   pub turned : (xs xs₀ rest all : List A) (p : ℕ) → rest ≡ [] → take p xs ++ rest ≡ all → drop p xs ≡ drop p xs₀ → xs ≡ all ++ drop p xs₀
   turned xs xs₀ rest all p e f g = rw (← f, e, append-nil, ← g, take-append-drop)
+
+  -- a part from a to e of xs, replaced by ys
+  module _ (xs ys : List A) (a e : ℕ) (le : a ≤ e) (fits : e ≤ length xs) (long : length ys ≡ e - a) where
+    front-long : length (take a xs ++ ys) ≡ e
+    front-long = simp (length-append, length-take) (omega arith)
+
+    pub middle-take : take e (take a xs ++ (ys ++ drop (e - a) (drop a xs))) ≡ take a xs ++ ys
+    middle-take = rw (← append-assoc (take a xs) ys (drop (e - a) (drop a xs))) (take-at (take a xs ++ ys) _ e front-long)
+
+    pub middle-long : length (take a xs ++ (ys ++ drop (e - a) (drop a xs))) ≡ length xs
+    middle-long = simp (length-append, length-take, length-drop) (omega arith)
+
+  -- a part up to the end
+  pub middle-end : (xs ys : List A) (a e : ℕ) → a ≤ e → length xs ≡ e → take a xs ++ (ys ++ drop (e - a) (drop a xs)) ≡ take a xs ++ ys
+  middle-end xs ys a e le l =
+      let h : length (drop a xs) ≤ e - a = simp length-drop (omega arith) in
+      rw (drop-of-length-le (drop a xs) h, append-nil)
