@@ -6,10 +6,10 @@ use native.Mathlib.Nat.{mul-add, mul-le-mul-left}
 use native.Mathlib.Omega.{arith}
 use lib.ListN.{length, take, drop}
 use Rattle.choice.specs.Tells.{acceptedWhole}
+use Rattle.choice.proofs.Filling.{turn, turned}
 use Rattle.trace.specs.Layout.{fullCount}
 use Rattle.trace.specs.Blocks.{countOf, recordWords}
 use Rattle.trace.specs.Reading.{blocksOf, recordCount, allRecordWords}
-use Rattle.choice.proofs.Filling.{turn, turned}
 use Rattle.trace.proofs.Parts.{block-long, blocks-at}
 use Rattle.trace.proofs.Sound.{count-fits, sound-count, records-long}
 use Rattle.trace.proofs.Judged.{from, judgedFrom, block, accepted-step, accepted-count}

@@ -12,3 +12,4 @@ pub mod Unique
 pub mod Trips
 pub mod Exactly
 pub mod Folded
+pub mod Long

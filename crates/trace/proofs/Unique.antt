@@ -8,7 +8,8 @@ use Rattle.trace.specs.declared.Filled.{Filled}
 use Rattle.trace.specs.declared.Filled.the-variants.{Accepted, Refused}
 use Rattle.trace.specs.Check.{checkOf}
 use Rattle.trace.specs.Answers.{filledTells, Fills}
-use Rattle.trace.specs.Reading.{Reads}
+use Rattle.trace.specs.Layout.{wordsPerRecord}
+use Rattle.trace.specs.Reading.{Reads, keptLength}
 use Rattle.trace.specs.Writing.{Writes}
 
 -- what an answer tells fixes it
@@ -32,3 +33,6 @@ write-unique words before r s after after′ f g = fills-one _ _ before r s afte
 
 pub check-unique : (bytes : List ℕ) (r s : ℕ) → r ≡ checkOf bytes → s ≡ checkOf bytes → r ≡ s
 check-unique bytes r s e f = e ∙ sym f
+
+pub kept-unique : (length r s : ℕ) → r ≡ keptLength wordsPerRecord length → s ≡ keptLength wordsPerRecord length → r ≡ s
+kept-unique length r s e f = e ∙ sym f

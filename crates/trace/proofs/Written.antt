@@ -4,10 +4,10 @@ use mathlib.Core.List.{List, [], _++_}
 use Prim.Native.Nat.{ℕ, _+_, _-_, _*_, _≤_, _<_, min}
 use native.Mathlib.Omega.{arith}
 use lib.ListN.{length, take, drop, length-take, length-drop}
+use Rattle.choice.proofs.Filling.{turn-part, turned}
 use Rattle.trace.specs.Layout.{part, joined}
 use Rattle.trace.specs.Blocks.{blockOf}
 use Rattle.trace.specs.Writing.{blocksFrom}
-use Rattle.choice.proofs.Filling.{turn-part, turned}
 use Rattle.trace.proofs.Made.{made-long, made-step}
 
 -- the bytes of the blocks from k on

@@ -74,3 +74,10 @@ readOf w trace room =
 -- what the reader promises: a trace, its answer, and the lent cycle words before and after
 abbrev pub Reads : List ℕ → Filled → List ℕ → List ℕ → Type 0
 Reads trace r before after = Fills (readOf wordsPerRecord trace (length before)) (readWords wordsPerRecord trace) r before after
+
+-- how much of an input of n bytes is kept to answer as of all of it: all, or one block more than a trace may have and the remainder
+abbrev pub tooMany : ℕ → ℕ
+tooMany w = (mostBlocks w + 1) * blockBytes
+
+unfoldable pub keptLength : ℕ → ℕ → ℕ
+keptLength w n = pick (ltb n (tooMany w + blockBytes)) n (tooMany w + n % blockBytes)

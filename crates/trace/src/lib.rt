@@ -6,7 +6,8 @@ mod making; // making.rt: words into blocks
 
 ghost use mathlib.Core.Path.{_≡_};
 ghost use Rattle.trace.specs.Check.{checkOf};
-ghost use Rattle.trace.specs.Reading.{Reads};
+ghost use Rattle.trace.specs.Layout.{wordsPerRecord};
+ghost use Rattle.trace.specs.Reading.{Reads, keptLength};
 ghost use Rattle.trace.specs.Writing.{Writes};
 
 // The words of a record, and those that a block has room for.
@@ -20,6 +21,9 @@ const BLOCK_BYTES: usize = 512;
 const MOST_CYCLES: usize = 4096;
 
 const MOST_BLOCKS: usize = 49;
+
+// One block more than that.
+const TOO_MANY: usize = 25600;
 
 // How much of the lent output is filled; or the number of the refusal and the index of the block, 0 where it is of no block.
 pub enum Filled {
@@ -63,6 +67,17 @@ pub fn read(trace: &[u8], cycles: &mut [u16]) -> Filled
             copying::copy_all(blocks, records, trace, cycles);
             Filled::Accepted(WORDS_PER_RECORD * records)
         }
+    }
+}
+
+// How much of a long input is kept, so that its answer is that of all of it.
+pub fn kept(length: usize) -> usize
+    ensures { λ r. ⌜ r ≡ keptLength wordsPerRecord length ⌝ }
+{
+    if length < TOO_MANY + BLOCK_BYTES {
+        length
+    } else {
+        TOO_MANY + length % BLOCK_BYTES
     }
 }
 

@@ -1,0 +1,5 @@
+pub mod Spelled
+pub mod Answered
+pub mod Putting
+pub mod Paged
+pub mod Shown

@@ -1,0 +1,5 @@
+pub mod Text
+pub mod Lines
+pub mod Answers
+pub mod Putting
+pub mod Pages

@@ -1,0 +1,113 @@
+// The lines that are printed of a run, as text in ASCII. A line is made in full before any of it is handed over.
+mod digits; // digits.rt: numbers into digits
+mod fields; // fields.rt: the fields of a line, one after another
+mod page; // page.rt: which line comes when
+
+use machine::Registers;
+use machine::Waiting;
+pub use page::page_line;
+use run::Ending;
+ghost use mathlib.Core.List.{[], _∷_, _++_};
+ghost use Prim.Native.Nat.{_+_, _≤_};
+ghost use lib.ListN.{length};
+ghost use Rattle.lines.specs.Text.{newline, decimal};
+ghost use Rattle.lines.specs.Lines.{cycleLine, waitingText, stateLine, registerLine, refusedLine, lastLine};
+ghost use Rattle.lines.specs.Putting.{Puts};
+ghost use Rattle.lines.specs.Answers.{Makes};
+
+// How many bytes a line has, or that the slice is too short for it.
+pub enum Line {
+    Made(usize),
+    NoRoom,
+}
+
+// Room for the longest line.
+const LONGEST: usize = 64;
+
+// An accepted cycle: its number and the four words of its report.
+pub fn cycle_line(number: u64, y: u16, mask: u16, ct: u16, t: u16, out: &mut [u8]) -> Line
+    ensures { λ r. ⌜ Makes (cycleLine number y mask ct t) r (now (out .entry)) (now (out .exit)) ⌝ }
+{
+    let mut line = [0u8; LONGEST];
+    let first = fields::put_decimal(number, b' ', 0, &mut line);
+    let second = fields::put_word(y, b' ', first, &mut line);
+    let third = fields::put_word(mask, b' ', second, &mut line);
+    let fourth = fields::put_digit(ct, 2, b' ', third, &mut line);
+    let end = fields::put_digit(t, 16, b'\n', fourth, &mut line);
+    fields::hand_over(&line[..end], out)
+}
+
+// The word that waits, or "-", and the line's end.
+fn put_waiting(waiting: Waiting, at: usize, line: &mut [u8]) -> usize
+    requires { ⌜ at + 5 ≤ length (now line) ⌝ }
+    ensures { λ r. ⌜ Puts (waitingText waiting ++ newline ∷ []) at r (now (line .entry)) (now (line .exit)) × (r ≤ at + 5) ⌝ }
+{
+    match waiting {
+        Waiting::Nothing => fields::put_text(b"-\n", at, line),
+        Waiting::Held(word) => fields::put_word(word, b'\n', at, line),
+    }
+}
+
+// The state: ACC, D, the status and the word that waits.
+pub fn state_line(registers: Registers, out: &mut [u8]) -> Line
+    ensures { λ r. ⌜ Makes (stateLine registers) r (now (out .entry)) (now (out .exit)) ⌝ }
+{
+    let mut line = [0u8; LONGEST];
+    let waiting = registers.waiting;
+    let mut at = fields::put_text(b"acc ", 0, &mut line);
+    at = fields::put_word(registers.acc, b' ', at, &mut line);
+    at = fields::put_text(b"d ", at, &mut line);
+    at = fields::put_word(registers.latch, b' ', at, &mut line);
+    at = fields::put_text(b"st ", at, &mut line);
+    at = fields::put_numeral(registers.status as u64, 16, 2, b' ', at, &mut line);
+    at = fields::put_text(b"wait ", at, &mut line);
+    at = put_waiting(waiting, at, &mut line);
+    fields::hand_over(&line[..at], out)
+}
+
+// A register that is not 0; one that is 0 has no line.
+pub fn register_line(number: u64, value: u16, out: &mut [u8]) -> Line
+    ensures { λ r. ⌜ Makes (registerLine number value) r (now (out .entry)) (now (out .exit)) ⌝ }
+{
+    if value == 0 {
+        return Line::Made(0);
+    }
+    let mut line = [0u8; LONGEST];
+    let mut at = fields::put_text(b"r", 0, &mut line);
+    at = fields::put_numeral(number, 10, 2, b' ', at, &mut line);
+    at = fields::put_word(value, b'\n', at, &mut line);
+    fields::hand_over(&line[..at], out)
+}
+
+// The count of a run that was not refused.
+fn counted_line(text: &[u8], accepted: u64, out: &mut [u8]) -> Line
+    requires { ⌜ length (now text) ≤ 8 ⌝ }
+    ensures { λ r. ⌜ Makes (now (text .entry) ++ (decimal accepted ++ newline ∷ [])) r (now (out .entry)) (now (out .exit)) ⌝ }
+{
+    let mut line = [0u8; LONGEST];
+    let mut at = fields::put_text(text, 0, &mut line);
+    at = fields::put_decimal(accepted, b'\n', at, &mut line);
+    fields::hand_over(&line[..at], out)
+}
+
+fn refused_line(number: u64, index: u64, out: &mut [u8]) -> Line
+    ensures { λ r. ⌜ Makes (refusedLine number index) r (now (out .entry)) (now (out .exit)) ⌝ }
+{
+    let mut line = [0u8; LONGEST];
+    let mut at = fields::put_text(b"refused ", 0, &mut line);
+    at = fields::put_decimal(number, b' ', at, &mut line);
+    at = fields::put_text(b"at ", at, &mut line);
+    at = fields::put_decimal(index, b'\n', at, &mut line);
+    fields::hand_over(&line[..at], out)
+}
+
+// The last line, by how the run ended.
+pub fn last_line(ending: Ending, accepted: u64, out: &mut [u8]) -> Line
+    ensures { λ r. ⌜ Makes (lastLine ending accepted) r (now (out .entry)) (now (out .exit)) ⌝ }
+{
+    match ending {
+        Ending::Done => counted_line(b"done ", accepted, out),
+        Ending::Stopped => counted_line(b"stopped ", accepted, out),
+        Ending::Refused(number, index) => refused_line(number as u64, index as u64, out),
+    }
+}

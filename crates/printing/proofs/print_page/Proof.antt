@@ -1,0 +1,58 @@
+-- `printing::print_page` meets its contract: the lines still to come get fewer.
+use Prim.Native.Nat.{_≤_, _-_}
+use borrow.Author.Needs.{needs}
+use Rattle.printing.proofs.print_page.Statement.{statement}
+use Rattle.printing.proofs.print_page.Tie as tie
+
+abbrev Inv-loop : tie.InvT-loop
+Inv-loop ran reports i₀ i = i ≤ 4130
+
+abbrev μ-loop : tie.MeasureT-loop
+μ-loop ran reports i₀ i = 4130 - i
+
+loop-holds : tie.Need-loop-holds Inv-loop μ-loop
+loop-holds c = search needs
+
+slice-aggregate-page-line : tie.Need-slice-aggregate-page-line Inv-loop μ-loop
+slice-aggregate-page-line c = search needs
+
+page-line-requires : tie.Need-page-line-requires Inv-loop μ-loop
+page-line-requires c κs = search needs
+
+slice-aggregate-print : tie.Need-slice-aggregate-print Inv-loop μ-loop
+slice-aggregate-print c = search needs
+
+print-requires : tie.Need-print-requires Inv-loop μ-loop
+print-requires c κs = search needs
+
+returns : tie.Need-returns Inv-loop μ-loop
+returns c = search needs
+
+add-i : tie.Need-add-i Inv-loop μ-loop
+add-i c = search needs
+
+loop-less : tie.Need-loop-less Inv-loop μ-loop
+loop-less c = search needs
+
+loop-again : tie.Need-loop-again Inv-loop μ-loop
+loop-again c = search needs
+
+returns-2 : tie.Need-returns-2 Inv-loop μ-loop
+returns-2 c = search needs
+
+pub print-page-spec : {M : Type 1} → statement M
+print-page-spec =
+    tie.close
+    (tie.spec
+    Inv-loop
+    μ-loop
+    loop-holds
+    slice-aggregate-page-line
+    page-line-requires
+    slice-aggregate-print
+    print-requires
+    returns
+    add-i
+    loop-less
+    loop-again
+    returns-2)

@@ -1,0 +1,64 @@
+-- `runtrace::count_rest` meets its contract: what is kept stays short, and the turns get fewer.
+use Prim.Native.Nat.{_≤_, _+_}
+use native.Mathlib.Omega.{arith}
+use borrow.Author.Needs.{needs}
+use Rattle.runtrace.proofs.count_rest.Statement.{statement}
+use Rattle.runtrace.proofs.count_rest.Tie as tie
+use Rattle.trace.proofs.Long.{kept-lt}
+
+abbrev Inv-loop : tie.InvT-loop
+Inv-loop first kept₀ turns₀ more₀ kept turns more = kept ≤ 26111
+
+abbrev μ-loop : tie.MeasureT-loop
+μ-loop first kept₀ turns₀ more₀ kept turns more = turns
+
+kept-requires : tie.Need-kept-requires Inv-loop μ-loop
+kept-requires c κs = search needs
+
+loop-holds : tie.Need-loop-holds Inv-loop μ-loop
+loop-holds c = omega (arith, c .kept .ensures, kept-lt 3 (c .before .args .first))
+
+slice-aggregate-read-full : tie.Need-slice-aggregate-read-full Inv-loop μ-loop
+slice-aggregate-read-full c = search needs
+
+read-full-requires : tie.Need-read-full-requires Inv-loop μ-loop
+read-full-requires c κs = search needs
+
+add-kept : tie.Need-add-kept Inv-loop μ-loop
+add-kept c = omega arith
+
+kept-requires-2 : tie.Need-kept-requires-2 Inv-loop μ-loop
+kept-requires-2 c κs = search needs
+
+sub-turns : tie.Need-sub-turns Inv-loop μ-loop
+sub-turns c = search needs
+
+loop-less : tie.Need-loop-less Inv-loop μ-loop
+loop-less c = search needs
+
+loop-again : tie.Need-loop-again Inv-loop μ-loop
+loop-again c = omega (arith, c .kept2 .ensures, kept-lt 3 (c .before .before .before .before .before .before .loop .kept + c .before .before .read-full .result))
+
+returns : tie.Need-returns Inv-loop μ-loop
+returns c = c .before .before .loop .inv
+
+returns-2 : tie.Need-returns-2 Inv-loop μ-loop
+returns-2 c = c .before .loop .inv
+
+pub count-rest-spec : {M : Type 1} → statement M
+count-rest-spec =
+    tie.close
+    (tie.spec
+    Inv-loop
+    μ-loop
+    kept-requires
+    loop-holds
+    slice-aggregate-read-full
+    read-full-requires
+    add-kept
+    kept-requires-2
+    sub-turns
+    loop-less
+    loop-again
+    returns
+    returns-2)
