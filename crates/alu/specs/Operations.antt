@@ -1,4 +1,4 @@
--- What each operation does at a width w, in the order of document 01, "What the instructions do". Operands here are below 2 ^ w:
+-- What each operation does at a width w (document 01, "What the instructions do"). Operands here are below 2 ^ w:
 -- `outcomeOf`, at the end, is every operation on any words, of which it takes the low parts.
 use Prim.Native.Nat.{ℕ, _+_, _-_, _*_, _/_, _%_, _^_}
 use lib.Dec.{eqb}

@@ -1,5 +1,5 @@
 // One operation at a width: the arithmetic of the Am29C116, the same for bytes and words. `perform` is every operation of document 01's
-// "What the instructions do" on its operands, and `write_back` is what a destination holds afterwards.
+// "What the instructions do" that computes from operands, and `write_back` is what a destination holds afterwards.
 mod flags;
 mod logic;
 mod priority;

@@ -14,7 +14,6 @@ use borrow.Author.Tests.{eqb-true, eq-eqb}
 use Rattle.choice.specs.Pick.{pick}
 use Rattle.choice.specs.Checks.{refusal}
 use Rattle.choice.specs.Tells.{Tells, accepted, refused}
-use Rattle.choice.proofs.Picks.{picked, unpicked}
 use Rattle.choice.proofs.Spans.{never}
 use Rattle.isa.specs.Words.{namedBy, takesImmediate}
 use Rattle.machine.specs.declared.Waiting.{Waiting}
@@ -31,6 +30,7 @@ use Rattle.run.specs.declared.Ran.{Ran}
 use Rattle.run.specs.Splitting.{cycleAt, cyclesFrom, cyclesIn, cyclesOf, wordsPerReport, reportWords}
 use Rattle.run.specs.Courses.{Step, Finish, done, stopped, Course, closing, stepThen, turnThen, runFrom, machineAfter, completedIn, reportsOf}
 use Rattle.run.specs.Runs.{startChecks, startRefusal, runOf, Summary, placed, summaryOf, ranTells, Gives}
+use Rattle.run.proofs.Starting.{started, refused-whole}
 use Rattle.run.proofs.Courses.{steps-le, reports-length}
 use Rattle.run.proofs.Laws.{ending-one}
 use Rattle.demands.specs.Isolation.{SameLowBytes, UpperBytesKept, instructionWord, ByteMark, CyclesAlike, waitingBefore, Reached, Premises, StricterPremises, Isolated, IsolatedCalls}
@@ -89,7 +89,7 @@ isolated-by m n c d a = record {
     number = length-told (c .steps) ∙ ap length (a .reports) ∙ sym (length-told (d .steps))
 
 -- a cycle whose checks are clear is a step
-turn-steps : (m : Machine) (c : Words) (rest : Course) → refusal (checksOf (m .registers .waiting) c) ≡ 0
+pub turn-steps : (m : Machine) (c : Words) (rest : Course) → refusal (checksOf (m .registers .waiting) c) ≡ 0
     → 0 < length (turnThen (cycleOf m c .answer) (cycleOf m c .machine) rest .steps)
 unfolding cycleOf judgementOf
 turn-steps m c rest e = by-test (eqb (refusal (checksOf (m .registers .waiting) c)) 0) (eq-eqb (refusal (checksOf (m .registers .waiting) c)) 0 e) (m .registers .waiting)
@@ -168,15 +168,6 @@ module _ (v w : List ℕ) where
       (λ e. subst (λ (j : ℕ). ByteMark (instructionWord (m .registers .waiting) (cycleAt v j))) (add-zero i) (g 0 (turn-steps m (cycleAt v i) c e))) in
       subst (λ (x : Tells Report). CoursesAlike m n (turnThen (t .answer) (t .machine) c) (turnThen x (u .machine) d)) (a .answer)
       (after-alike m n t u i left budget c d a s (λ p q. runs-alike (t .machine) (u .machine) left (i + 1) budget (a .ends) p q) (t .answer .value) f g)
-
--- a run that is started, and one that is refused as a whole
-started : (m : Machine) (words : List ℕ) (budget room : ℕ) → startRefusal m words room ≡ 0 → runOf m words budget room ≡ runFrom m budget (cyclesOf words)
-unfolding runOf
-started m words budget room e = picked (eqb (startRefusal m words room) 0) (runFrom m budget (cyclesOf words)) (closing (refused (startRefusal m words room))) (eq-eqb (startRefusal m words room) 0 e)
-
-refused-whole : (m : Machine) (words : List ℕ) (budget room : ℕ) → eqb (startRefusal m words room) 0 ≡ false → runOf m words budget room ≡ closing (refused (startRefusal m words room))
-unfolding runOf
-refused-whole m words budget room e = unpicked (eqb (startRefusal m words room) 0) (runFrom m budget (cyclesOf words)) (closing (refused (startRefusal m words room))) e
 
 module _ (m n : Machine) (v w : List ℕ) (budget room : ℕ) where
   -- demand 3

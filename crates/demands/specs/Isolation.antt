@@ -76,8 +76,8 @@ module _ (m n : Machine) (v w : List ℕ) (budget room : ℕ) where
     pub cycles : (i : ℕ) → Reached m v budget room i → CyclesAlike (waitingBefore m first i) (cycleAt v i) (cycleAt w i)
     pub marks : (i : ℕ) → i < length (first .steps) → ByteMark (instructionWord (waitingBefore m first i) (cycleAt v i))
 
-  -- a stricter reading: all cycles differ only so, those not reached too; and the byte mark is asked of the refused word as well, and of
-  -- a word that waits at the start even where no cycle is reached
+  -- a stricter reading: all cycles differ only so, those not reached too, where the word that waits at the run's end says what is immediate
+  -- data; and the byte mark is asked of the refused word as well, and of a word that waits at the start even where no cycle is reached
   pub record StricterPremises : Type 0 where
     pub number : length v ≡ length w
     pub starts : SameLowBytes (m .registers) (n .registers)

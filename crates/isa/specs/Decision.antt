@@ -36,7 +36,7 @@ judgeOf i mark a b c =
     tells (refusal (check 7 (leb noRow i) ∷ ruleChecks (rowAt i) mark a b))
     (record { family = rowAt i .family; mode = modeOf mark; a = a; b = b; c = c })
 
--- the fields of a row are no wider than those of a word
+-- a row's quadrant, and its sets of values of A, B and C, fit into what the code has for them
 pub record Narrow (r : Row) : Type 0 where
   pub quadrant : r .quadrant < 4
   pub a : r .a < 0x10000

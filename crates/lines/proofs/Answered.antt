@@ -9,19 +9,19 @@ use borrow.Author.Tests.{le-leb, lt-leb}
 use Rattle.choice.proofs.Picks.{picked, unpicked}
 use Rattle.lines.specs.declared.Line.{Line}
 use Rattle.lines.specs.declared.Line.the-variants.{Made, NoRoom}
-use Rattle.lines.specs.Answers.{lineTells, MakesIn, Makes}
+use Rattle.lines.specs.Answers.{lineTells, Makes}
 
-module _ {need : ℕ} {text before : List ℕ} where
-  pub no-room : length before < need → MakesIn need text NoRoom before before
+module _ {text before : List ℕ} where
+  pub no-room : length before < length text → Makes text NoRoom before before
   no-room h = record {
-    told = sym (unpicked (leb need (length before)) (some (length text)) none (lt-leb need (length before) h));
-    written = sym (unpicked (leb need (length before)) (text ++ drop (length text) before) before (lt-leb need (length before) h));
+    told = sym (unpicked (leb (length text) (length before)) (some (length text)) none (lt-leb (length text) (length before) h));
+    written = sym (unpicked (leb (length text) (length before)) (text ++ drop (length text) before) before (lt-leb (length text) (length before) h));
   }
 
-  pub made-all : (n : ℕ) (after : List ℕ) → need ≤ length before → n ≡ length text → after ≡ text ++ drop (length text) before → MakesIn need text (Made n) before after
+  pub made-all : (n : ℕ) (after : List ℕ) → length text ≤ length before → n ≡ length text → after ≡ text ++ drop (length text) before → Makes text (Made n) before after
   made-all n after h e f = record {
-    told = ap some e ∙ sym (picked (leb need (length before)) (some (length text)) none (le-leb need (length before) h));
-    written = f ∙ sym (picked (leb need (length before)) (text ++ drop (length text) before) before (le-leb need (length before) h));
+    told = ap some e ∙ sym (picked (leb (length text) (length before)) (some (length text)) none (le-leb (length text) (length before) h));
+    written = f ∙ sym (picked (leb (length text) (length before)) (text ++ drop (length text) before) before (le-leb (length text) (length before) h));
   }
 
 -- the same of a text said otherwise
@@ -35,6 +35,6 @@ line-one (Made n) NoRoom e = absurd (Option·some-ne-none n e)
 line-one NoRoom (Made m) e = absurd (Option·some-ne-none m (sym e))
 line-one NoRoom NoRoom e = refl
 
-pub makes-unique : (need : ℕ) (text before : List ℕ) (r s : Line) (after after′ : List ℕ) → MakesIn need text r before after → MakesIn need text s before after′
+pub makes-unique : (text before : List ℕ) (r s : Line) (after after′ : List ℕ) → Makes text r before after → Makes text s before after′
     → (r ≡ s) × (after ≡ after′)
-makes-unique need text before r s after after′ f g = (line-one r s (f .told ∙ sym (g .told)), f .written ∙ sym (g .written))
+makes-unique text before r s after after′ f g = (line-one r s (f .told ∙ sym (g .told)), f .written ∙ sym (g .written))

@@ -1,4 +1,4 @@
--- What a function that makes a line answers, and what it leaves in the lent slice.
+-- What a function that makes a line answers, and what it leaves in the lent slice. Document 01 has no such calls: they are ours.
 use mathlib.Core.Path.{_≡_}
 use Prim.Native.Nat.{ℕ}
 use mathlib.Core.List.{List, _++_}
@@ -14,11 +14,7 @@ abbrev pub lineTells : Line → Option ℕ
 lineTells (Made n) = some n
 lineTells NoRoom = none
 
--- an answer and the lent slice, by the room that is asked for: the text and then the slice as it was, or all of it as it was
-pub record MakesIn (need : ℕ) (text : List ℕ) (r : Line) (before after : List ℕ) : Type 0 where
-  pub told : lineTells r ≡ pick (leb need (length before)) (some (length text)) none
-  pub written : after ≡ pick (leb need (length before)) (text ++ drop (length text) before) before
-
--- a line asks for its own length
-abbrev pub Makes : List ℕ → Line → List ℕ → List ℕ → Type 0
-Makes text r before after = MakesIn (length text) text r before after
+-- an answer and the lent slice, which has room if it is as long as the text: the text and then the slice as it was, or all as it was
+pub record Makes (text : List ℕ) (r : Line) (before after : List ℕ) : Type 0 where
+  pub told : lineTells r ≡ pick (leb (length text) (length before)) (some (length text)) none
+  pub written : after ≡ pick (leb (length text) (length before)) (text ++ drop (length text) before) before

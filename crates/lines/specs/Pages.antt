@@ -16,11 +16,11 @@ abbrev pub linesFrom : (ℕ → List ℕ) → ℕ → ℕ → List (List ℕ)
 linesFrom line i zero = []
 linesFrom line i (suc n) = line i ∷ linesFrom line (i + 1) n
 
--- RAM has 32 registers
+-- RAM has 32 registers (document 01, the machine)
 abbrev pub registerCount : ℕ
 registerCount = 32
 
--- the accepted cycles, the state, the registers, of which one that is 0 has an empty line, and the end
+-- the accepted cycles, the state, the registers, of which one that is 0 has no text, and the end
 unfoldable pub pageOf : Ran → List ℕ → List (List ℕ)
 pageOf r reports =
     linesFrom (reportLine reports) 0 (r .accepted)

@@ -17,7 +17,7 @@ dash = 45
 abbrev pub zeroDigit : ℕ
 zeroDigit = 48
 
--- a digit below 16: "0" to "9", then capital letters
+-- a digit below 16: "0" to "9", then capital letters, of which "A" is 65
 abbrev pub digit : ℕ → ℕ
 digit d = pick (ltb d 10) (zeroDigit + d) (55 + d)
 
@@ -42,6 +42,6 @@ longest = 20
 unfoldable pub decimal : ℕ → List ℕ
 decimal x = trimmed (numeral 10 longest x)
 
--- a digit where x is below a limit, and "-" for none
+-- a digit where x is below a limit, which is at most 16, and "-" for none
 abbrev pub digitOrNone : ℕ → ℕ → ℕ
 digitOrNone limit x = pick (ltb x limit) (digit x) dash

@@ -1,7 +1,7 @@
 -- Each of 4 to 10 is given exactly when its condition holds and no earlier one does; and what is accepted completes.
 use mathlib.Core.Path.{_≡_, refl, _∙_, sym, subst}
 use mathlib.Core.Bool.{Bool, true, false, not}
-use mathlib.Core.List.{[], _∷_}
+use mathlib.Core.List.{List, [], _∷_}
 use mathlib.Core.Logic.{_↔_, ⊎-elim}
 use Prim.Native.Nat.{ℕ}
 use lib.Dec.{T, eqb}
@@ -124,3 +124,25 @@ module _ (m : Machine) (c : Words) where
   pub cycle-number : cycleOf m c .answer .number ≡ refusal (checksOf (m .registers .waiting) c)
   unfolding cycleOf judgementOf
   cycle-number = number-by (refusal (checksOf (m .registers .waiting) c)) (acceptedAs (m .registers .waiting) c) (accepts (m .registers .waiting))
+
+-- every number that a cycle's checks can give
+module _ (P : ℕ → Type 0) (none : P 0) (five : P 5) (six : P 6) where
+  by-pins : (stray clash : Bool) (rest : List Check) → P (refusal rest) → P (refusal (check 5 stray ∷ check 6 clash ∷ rest))
+  by-pins true clash rest p = five
+  by-pins false true rest p = six
+  by-pins false false rest p = p
+
+  pub begin-numbers : P 7 → P 8 → P 9 → P 10 → (c : Words) → P (refusal (beginChecks c))
+  begin-numbers seven eight nine ten c = by-pins (strayPin (c .pins)) (busClash (c .pins)) (word c ∷ check 10 (late c) ∷ []) (by-word (eqb (number c) 0) (late c))
+    where
+      by-word : (zero l : Bool) → P (elim (not zero) [ true ↦ number c | false ↦ elim l [ true ↦ 10 | false ↦ 0 ] ])
+      by-word false l = by-number P none seven eight nine (c .lines)
+      by-word true true = ten
+      by-word true false = none
+
+  pub second-numbers : P 4 → (w : ℕ) (c : Words) → P (refusal (secondChecks w c))
+  second-numbers four w c = by-first (not (takesImmediate w))
+    where
+      by-first : (b : Bool) → P (refusal (check 4 b ∷ check 5 (strayPin (c .pins)) ∷ check 6 (busClash (c .pins)) ∷ []))
+      by-first true = four
+      by-first false = by-pins (strayPin (c .pins)) (busClash (c .pins)) [] none

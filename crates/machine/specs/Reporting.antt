@@ -1,4 +1,4 @@
--- CT, T and the report (document 01, the machine and one cycle).
+-- CT and T (document 01, the machine and one cycle).
 use Prim.Native.Nat.{ℕ, _-_, _%_}
 use mathlib.Core.List.{List, [], _∷_}
 use lib.ListN.{getD}

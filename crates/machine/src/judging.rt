@@ -1,4 +1,4 @@
-// Whether a cycle is refused, waits, or performs an instruction. Decoding is done here and nowhere else.
+// Whether a cycle is refused, waits, or performs an instruction. A cycle's word is decoded here and nowhere else.
 use crate::Judgement;
 use crate::Waiting;
 use crate::Words;

@@ -1,4 +1,4 @@
--- What is read off a plan: whether the instruction has an I operand, and whether it writes RAM.
+-- What is read off a plan: whether the instruction has an I operand and, for the law that holds plans to the list, whether it writes RAM.
 use mathlib.Core.Bool.{Bool, true, false}
 use Rattle.choice.specs.Pick.{pick}
 use Rattle.plan.specs.declared.Source.{Source}

@@ -6,7 +6,6 @@ use machine::Report;
 use machine::Waiting;
 use machine::Words;
 ghost use mathlib.Core.Path.{_≡_};
-ghost use mathlib.Core.List.{[], _∷_};
 ghost use Prim.Native.Nat.{_+_, _*_, _/_, _≤_, _<_};
 ghost use lib.ListN.{length};
 ghost use lib.Seq.{sets};
@@ -90,6 +89,17 @@ fn instructions(completed: Completed) -> usize
     }
 }
 
+fn ended(machine: Machine, ending: Ending, accepted: usize, completed: usize) -> Ran
+    ensures { λ r. ⌜ r ≡ record { machine = machine; ending = ending; accepted = accepted; completed = completed } ⌝ }
+{
+    Ran {
+        machine: machine,
+        ending: ending,
+        accepted: accepted,
+        completed: completed,
+    }
+}
+
 // The cycles one after another, once the run as a whole is accepted.
 fn run_cycles(machine: Machine, words: &[u16], budget: u64, reports: &mut [u16]) -> Ran
     requires { ⌜ (cyclesIn (length (now words)) * wordsPerCycle ≡ length (now words)) × (cyclesIn (length (now words)) ≤ mostCycles) × (wordsPerReport * cyclesIn (length (now words)) ≤ length (now reports)) ⌝ }
@@ -102,23 +112,13 @@ fn run_cycles(machine: Machine, words: &[u16], budget: u64, reports: &mut [u16])
     let mut i: usize = 0;
     while i < cycles {
         if left == 0 {
-            return Ran {
-                machine: state,
-                ending: Ending::Stopped,
-                accepted: i,
-                completed: completed,
-            };
+            return ended(state, Ending::Stopped, i, completed);
         }
         let turn = machine::cycle(state, cycle_at(words, i));
         let answer = turn.answer;
         match answer {
             Answer::Refused(number) => {
-                return Ran {
-                    machine: state,
-                    ending: Ending::Refused(number, i),
-                    accepted: i,
-                    completed: completed,
-                };
+                return ended(state, Ending::Refused(number, i), i, completed);
             }
             Answer::Accepted(report) => {
                 put(reports, i, report);
@@ -131,12 +131,7 @@ fn run_cycles(machine: Machine, words: &[u16], budget: u64, reports: &mut [u16])
             }
         }
     }
-    Ran {
-        machine: state,
-        ending: Ending::Done,
-        accepted: i,
-        completed: completed,
-    }
+    ended(state, Ending::Done, i, completed)
 }
 
 // A run: at most 4,096 cycles of three words, a budget that is a number of cycles, and four words of room for each report.
@@ -147,12 +142,7 @@ pub fn run(machine: Machine, words: &[u16], budget: u64, reports: &mut [u16]) ->
     let waiting = registers.waiting;
     let number = start_refusal(waiting, words.len(), reports.len());
     if number != 0 {
-        return Ran {
-            machine: machine,
-            ending: Ending::Refused(number, 0),
-            accepted: 0,
-            completed: 0,
-        };
+        return ended(machine, Ending::Refused(number, 0), 0, 0);
     }
     run_cycles(machine, words, budget, reports)
 }

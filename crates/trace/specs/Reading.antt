@@ -75,9 +75,11 @@ readOf w trace room =
 abbrev pub Reads : List ℕ → Filled → List ℕ → List ℕ → Type 0
 Reads trace r before after = Fills (readOf wordsPerRecord trace (length before)) (readWords wordsPerRecord trace) r before after
 
--- how much of an input of n bytes is kept to answer as of all of it: all, or one block more than a trace may have and the remainder
-abbrev pub tooMany : ℕ → ℕ
-tooMany w = (mostBlocks w + 1) * blockBytes
+-- the bytes of one block more than a trace may have
+abbrev pub tooLong : ℕ → ℕ
+tooLong w = (mostBlocks w + 1) * blockBytes
 
+-- how many of the first bytes of an input of n bytes are kept to answer as of all of it. From `tooLong` on it is refused in any case, with
+-- 11 or 2 by the remainder (document 01, the reader's order of checks)
 unfoldable pub keptLength : ℕ → ℕ → ℕ
-keptLength w n = pick (ltb n (tooMany w + blockBytes)) n (tooMany w + n % blockBytes)
+keptLength w n = pick (ltb n (tooLong w)) n (tooLong w + n % blockBytes)

@@ -4,7 +4,7 @@ ghost use mathlib.Core.Path.{_≡_};
 ghost use Prim.Native.Nat.{_+_, _*_, _≤_, _<_};
 ghost use lib.ListN.{length};
 ghost use Rattle.choice.specs.Tells.{acceptedWhole};
-ghost use Rattle.trace.specs.Layout.{wordsPerRecord, blockBytes, wordAt};
+ghost use Rattle.trace.specs.Layout.{wordsPerRecord, wordAt};
 ghost use Rattle.trace.specs.Blocks.{countGood, allZero, shapeGood, checkHeld, checkGood, blockRefusal};
 ghost use Rattle.trace.specs.Answers.{filledTells};
 ghost use Rattle.trace.specs.Reading.{blocksOf, blockRefusals, afterBlocks, recordCount};

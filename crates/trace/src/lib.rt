@@ -22,8 +22,8 @@ const MOST_CYCLES: usize = 4096;
 
 const MOST_BLOCKS: usize = 49;
 
-// One block more than that.
-const TOO_MANY: usize = 25600;
+// The bytes of one block more.
+const TOO_LONG: usize = 25600;
 
 // How much of the lent output is filled; or the number of the refusal and the index of the block, 0 where it is of no block.
 pub enum Filled {
@@ -74,10 +74,10 @@ pub fn read(trace: &[u8], cycles: &mut [u16]) -> Filled
 pub fn kept(length: usize) -> usize
     ensures { λ r. ⌜ r ≡ keptLength wordsPerRecord length ⌝ }
 {
-    if length < TOO_MANY + BLOCK_BYTES {
+    if length < TOO_LONG {
         length
     } else {
-        TOO_MANY + length % BLOCK_BYTES
+        TOO_LONG + length % BLOCK_BYTES
     }
 }
 

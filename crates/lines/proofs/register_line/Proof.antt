@@ -18,7 +18,7 @@ returns : tie.Need-returns
 unfolding registerLine
 returns c =
     let a = c .before .before .args in
-    let none : registerLine (a .number) (a .value) ≡ [] = picked (eqb (a .value) 0) [] (lineOf ((114 ∷ numeral 10 2 (a .number)) ∷ hex 4 (a .value) ∷ [])) (eq-eqb (a .value) 0 (c .if1 .taken)) in
+    let none : registerLine (a .number) (a .value) ≡ [] = picked (eqb (a .value) 0) [] (lineOf (114 ∷ numeral 10 2 (a .number)) (hex 4 (a .value) ∷ [])) (eq-eqb (a .value) 0 (c .if1 .taken)) in
     makes-as (sym none) (made-all 0 (a .out .now) (omega arith) refl refl)
 
 slice-aggregate-put-text : tie.Need-slice-aggregate-put-text
@@ -58,8 +58,8 @@ returns-2 : tie.Need-returns-2
 unfolding registerLine
 returns-2 c =
     let a = c .before .before .before .before .before .before .before .before .before .before .before .before .before .before .before .before .before .args in
-    let some : lineOf ((114 ∷ numeral 10 2 (a .number)) ∷ hex 4 (a .value) ∷ []) ≡ registerLine (a .number) (a .value) =
-    sym (unpicked (eqb (a .value) 0) [] (lineOf ((114 ∷ numeral 10 2 (a .number)) ∷ hex 4 (a .value) ∷ [])) (ne-eqb (a .value) 0 (c .before .before .before .before .before .before .before .before .before .before .before .before .before .before .before .if1 .left))) in
+    let some : lineOf (114 ∷ numeral 10 2 (a .number)) (hex 4 (a .value) ∷ []) ≡ registerLine (a .number) (a .value) =
+    sym (unpicked (eqb (a .value) 0) [] (lineOf (114 ∷ numeral 10 2 (a .number)) (hex 4 (a .value) ∷ [])) (ne-eqb (a .value) 0 (c .before .before .before .before .before .before .before .before .before .before .before .before .before .before .before .if1 .left))) in
     makes-as some
     (line-made (puts-field (114 ∷ numeral 10 2 (a .number)) (puts-both (c .before .before .before .before .before .before .before .before .before .before .before .before .put-text .ensures) (c .before .before .before .before .before .before .before .before .before .put-numeral .ensures .0)) (c .before .before .before .before .before .before .put-word .ensures .0)) (c .before .before .hand-over .ensures))
 

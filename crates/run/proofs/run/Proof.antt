@@ -10,9 +10,12 @@ use Rattle.run.proofs.run.Tie as tie
 start-refusal-requires : tie.Need-start-refusal-requires
 start-refusal-requires c κs = search needs
 
+ended-requires : tie.Need-ended-requires
+ended-requires c κs = search needs
+
 returns : tie.Need-returns
 unfolding runOf
-returns c = rw (← c .before .start-refusal .ensures, ne-eqb _ _ (c .if1 .taken)) (record { answer = refl; written = refl })
+returns c = rw (c .ended .ensures, ← c .before .before .start-refusal .ensures, ne-eqb _ _ (c .before .if1 .taken)) (record { answer = refl; written = refl })
 
 run-cycles-requires : tie.Need-run-cycles-requires
 run-cycles-requires c κs = starts (c .before .before .before .before .before .before .args .machine .registers .waiting) _ _ (sym (c .before .before .start-refusal .ensures) ∙ c .before .if1 .left)
@@ -26,4 +29,4 @@ returns-2 c = rw (← c .before .before .before .before .before .start-refusal .
 
 pub run-spec : {M : Type 1} → statement M
 run-spec =
-    tie.close (tie.spec start-refusal-requires returns run-cycles-requires same-length returns-2)
+    tie.close (tie.spec start-refusal-requires ended-requires returns run-cycles-requires same-length returns-2)

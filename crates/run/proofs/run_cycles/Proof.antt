@@ -18,14 +18,17 @@ abbrev μ-loop : tie.MeasureT-loop
 loop-holds : tie.Need-loop-holds Inv-loop μ-loop
 loop-holds c = begins (c .before .before .args .words .now) (c .before .before .args .budget) (c .before .before .args .machine) (c .before .before .args .reports .now) _
 
+ended-requires : tie.Need-ended-requires Inv-loop μ-loop
+ended-requires c κs = search needs
+
 same-length : tie.Need-same-length Inv-loop μ-loop
-same-length c = c .before .before .loop .inv .room
+same-length c = c .before .before .before .loop .inv .room
 
 returns : tie.Need-returns Inv-loop μ-loop
 returns c =
-    let start = c .before .before .before .before .before in
-    let loop = c .before .before .loop in
-    stops (loop .inv) (start .pre .2) (c .before .loop-test .taken) (c .if1 .taken)
+    let start = c .before .before .before .before .before .before in
+    let loop = c .before .before .before .loop in
+    rw (c .ended .ensures) (stops (loop .inv) (start .pre .2) (c .before .before .loop-test .taken) (c .before .if1 .taken))
 
 cycle-at-requires : tie.Need-cycle-at-requires Inv-loop μ-loop
 cycle-at-requires c κs = omega (arith, c .before .before .before .before .before .pre, c .before .loop-test .taken)
@@ -36,16 +39,20 @@ cycle-requires c κs = search needs
 enum-known-answer : tie.Need-enum-known-answer Inv-loop μ-loop
 enum-known-answer c = search needs
 
+ended-requires-2 : tie.Need-ended-requires-2 Inv-loop μ-loop
+ended-requires-2 c κs = search needs
+
 same-length-2 : tie.Need-same-length-2 Inv-loop μ-loop
-same-length-2 c = c .before .before .before .before .before .before .before .loop .inv .room
+same-length-2 c = c .before .before .before .before .before .before .before .before .loop .inv .room
 
 returns-2 : tie.Need-returns-2 Inv-loop μ-loop
 returns-2 c =
-    let start = c .before .before .before .before .before .before .before .before .before .before in
-    let loop = c .before .before .before .before .before .before .before .loop in
-    let turn = c .before .before .before .cycle in
-    refuses (loop .inv) (start .pre .2) (c .before .before .before .before .before .before .loop-test .taken) (c .before .before .before .before .before .if1 .left) (turn .result)
-    (turn .ensures ∙ ap (cycleOf (loop .state)) (c .before .before .before .before .cycle-at .ensures)) _ (c .before .answer .given .1)
+    let start = c .before .before .before .before .before .before .before .before .before .before .before in
+    let loop = c .before .before .before .before .before .before .before .before .loop in
+    let turn = c .before .before .before .before .cycle in
+    rw (c .ended2 .ensures)
+    (refuses (loop .inv) (start .pre .2) (c .before .before .before .before .before .before .before .loop-test .taken) (c .before .before .before .before .before .before .if1 .left) (turn .result)
+    (turn .ensures ∙ ap (cycleOf (loop .state)) (c .before .before .before .before .before .cycle-at .ensures)) _ (c .before .before .answer .given .1))
 
 enum-known-answer-2 : tie.Need-enum-known-answer-2 Inv-loop μ-loop
 enum-known-answer-2 c = search needs
@@ -81,14 +88,17 @@ loop-again c =
     (again (loop .inv) (start .pre .2) (c .before .before .before .before .before .before .before .before .before .before .before .before .loop-test .taken) (c .before .before .before .before .before .before .before .before .before .before .before .if1 .left) (turn .result)
     (turn .ensures ∙ ap (cycleOf (loop .state)) (c .before .before .before .before .before .before .before .before .before .before .cycle-at .ensures)) _ _ (c .before .before .before .before .before .before .before .answer2 .given .1) (c .before .before .before .before .put .ensures))
 
+ended-requires-3 : tie.Need-ended-requires-3 Inv-loop μ-loop
+ended-requires-3 c κs = search needs
+
 same-length-3 : tie.Need-same-length-3 Inv-loop μ-loop
-same-length-3 c = c .before .loop .inv .room
+same-length-3 c = c .before .before .loop .inv .room
 
 returns-3 : tie.Need-returns-3 Inv-loop μ-loop
 returns-3 c =
-    let start = c .before .before .before .before in
-    let loop = c .before .loop in
-    finishes (loop .inv) (start .pre .2) (c .loop-test .left)
+    let start = c .before .before .before .before .before in
+    let loop = c .before .before .loop in
+    rw (c .ended3 .ensures) (finishes (loop .inv) (start .pre .2) (c .before .loop-test .left))
 
 pub run-cycles-spec : {M : Type 1} → statement M
 run-cycles-spec =
@@ -97,11 +107,13 @@ run-cycles-spec =
     Inv-loop
     μ-loop
     loop-holds
+    ended-requires
     same-length
     returns
     cycle-at-requires
     cycle-requires
     enum-known-answer
+    ended-requires-2
     same-length-2
     returns-2
     enum-known-answer-2
@@ -112,5 +124,6 @@ run-cycles-spec =
     add-i
     loop-less
     loop-again
+    ended-requires-3
     same-length-3
     returns-3)

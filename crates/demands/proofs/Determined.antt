@@ -1,0 +1,67 @@
+-- Demand 1, first part: every public call's statement determines its answer and all lent output, for every input.
+use mathlib.Core.Path.{_≡_, ap, _∙_}
+use mathlib.Core.List.{List}
+use Prim.Native.Nat.{ℕ}
+use lib.ListN.{length}
+use Rattle.alu.proofs.Unique.{perform-unique, write-back-unique}
+use Rattle.isa.proofs.Laws.{decode-unique, encode-unique, takes-immediate-unique}
+use Rattle.plan.proofs.Laws.{plan-for-unique, names-immediate-unique}
+use Rattle.machine.proofs.Laws.{cycle-unique, may-start-unique}
+use Rattle.run.specs.Runs.{runOf}
+use Rattle.run.proofs.Laws.{run-unique}
+use Rattle.demands.specs.Calls.{Filling, Determined, Performs, WritesBack, Decodes, Encodes, TakesImmediate, Plans, NamesImmediate, Cycles, MayStart, Runs, Checks, ReadsTrace, WritesTrace, Keeps, MakesLine, CycleLines, StateLines, RegisterLines, LastLines, PageLines}
+use Rattle.trace.proofs.Unique.{check-unique, read-unique, write-unique, kept-unique}
+use Rattle.lines.proofs.Answered.{makes-unique}
+
+-- the same answer and the same lent output
+same-filling : {A : Type 0} (x y : Filling A) → (x .answer ≡ y .answer) × (x .after ≡ y .after) → x ≡ y
+same-filling {A = A} x y e =
+    ap (λ (a : A). record { answer = a; after = x .after }) (e .0) ∙ ap (λ (l : List ℕ). record { answer = y .answer; after = l }) (e .1)
+
+makes-line : Determined MakesLine
+makes-line i x y f g = same-filling x y (makes-unique (i .0) (i .1) (x .answer) (y .answer) (x .after) (y .after) f g)
+
+pub record EveryCall : Type 0 where
+  pub perform : Determined Performs
+  pub write-back : Determined WritesBack
+  pub decode : Determined Decodes
+  pub encode : Determined Encodes
+  pub takes-immediate : Determined TakesImmediate
+  pub plan-for : Determined Plans
+  pub names-immediate : Determined NamesImmediate
+  pub cycle : Determined Cycles
+  pub may-start : Determined MayStart
+  pub run : Determined Runs
+  pub check : Determined Checks
+  pub read : Determined ReadsTrace
+  pub write : Determined WritesTrace
+  pub kept : Determined Keeps
+  pub cycle-line : Determined CycleLines
+  pub state-line : Determined StateLines
+  pub register-line : Determined RegisterLines
+  pub last-line : Determined LastLines
+  pub page-line : Determined PageLines
+
+pub every-call : EveryCall
+every-call = record {
+  perform = λ i x y f g. perform-unique (i .0) (i .1) (i .2) x y f g;
+  write-back = λ i x y f g. write-back-unique (i .0) (i .1) (i .2) x y f g;
+  decode = decode-unique;
+  encode = encode-unique;
+  takes-immediate = takes-immediate-unique;
+  plan-for = plan-for-unique;
+  names-immediate = names-immediate-unique;
+  cycle = λ i x y f g. cycle-unique (i .0) (i .1) x y f g;
+  may-start = may-start-unique;
+  run = λ i x y f g.
+      same-filling x y (run-unique (i .machine) (runOf (i .machine) (i .words) (i .budget) (length (i .reports))) (i .reports) (x .answer) (y .answer) (x .after) (y .after) f g);
+  check = check-unique;
+  read = λ i x y f g. same-filling x y (read-unique (i .0) (i .1) (x .answer) (y .answer) (x .after) (y .after) f g);
+  write = λ i x y f g. same-filling x y (write-unique (i .0) (i .1) (x .answer) (y .answer) (x .after) (y .after) f g);
+  kept = kept-unique;
+  cycle-line = λ i. makes-line (_, i .1);
+  state-line = λ i. makes-line (_, i .1);
+  register-line = λ i. makes-line (_, i .2);
+  last-line = λ i. makes-line (_, i .2);
+  page-line = λ i. makes-line (_, i .3);
+}

@@ -1,0 +1,127 @@
+-- The statements of the public calls, each over what goes in and what comes out: the answer, and lent output after the call.
+use mathlib.Core.Path.{_≡_}
+use mathlib.Core.Bool.{Bool}
+use mathlib.Core.List.{List, []}
+use Prim.Native.Nat.{ℕ}
+use lib.ListN.{length, getD}
+use Rattle.alu.specs.declared.Mode.{Mode}
+use Rattle.alu.specs.declared.Operation.{Operation}
+use Rattle.alu.specs.declared.Outcome.{Outcome}
+use Rattle.alu.specs.Width.{widthOf, writeBack}
+use Rattle.alu.specs.Operations.{outcomeOf}
+use Rattle.isa.specs.declared.Named.{Named}
+use Rattle.isa.specs.declared.Decoded.{Decoded}
+use Rattle.isa.specs.declared.Encoded.{Encoded}
+use Rattle.isa.specs.Words.{decodedTells, decodeOf, encodedTells, encodeOf, takesImmediate}
+use Rattle.plan.specs.declared.Plan.{Plan}
+use Rattle.plan.specs.declared.Work.{Work}
+use Rattle.plan.specs.Plans.{planOf}
+use Rattle.plan.specs.Reading.{namesI}
+use Rattle.machine.specs.declared.Waiting.{Waiting}
+use Rattle.machine.specs.declared.Registers.{Registers}
+use Rattle.machine.specs.declared.Machine.{Machine}
+use Rattle.machine.specs.declared.Words.{Words}
+use Rattle.machine.specs.declared.Turn.{Turn}
+use Rattle.machine.specs.Judging.{mayStart}
+use Rattle.machine.specs.Cycles.{turnTells, cycleOf}
+use Rattle.run.specs.declared.Ending.{Ending}
+use Rattle.run.specs.declared.Ran.{Ran}
+use Rattle.run.specs.Runs.{runOf, Gives}
+use Rattle.trace.specs.declared.Filled.{Filled}
+use Rattle.trace.specs.Check.{checkOf}
+use Rattle.trace.specs.Layout.{wordsPerRecord}
+use Rattle.trace.specs.Reading.{Reads, keptLength}
+use Rattle.trace.specs.Writing.{Writes}
+use Rattle.lines.specs.declared.Line.{Line}
+use Rattle.lines.specs.Lines.{cycleLine, stateLine, registerLine, lastLine}
+use Rattle.lines.specs.Answers.{Makes}
+use Rattle.lines.specs.Pages.{pageOf}
+
+-- an answer, and lent output after the call
+pub record Filling (Answer : Type 0) : Type 0 where
+  pub answer : Answer
+  pub after : List ℕ
+
+-- a statement determines what comes out: no two outcomes satisfy it
+abbrev pub Determined : {Input Outcome : Type 0} → (Input → Outcome → Type 0) → Type 0
+Determined {Input = Input} {Outcome = Outcome} Promises = (i : Input) (x y : Outcome) → Promises i x → Promises i y → x ≡ y
+
+-- alu
+abbrev pub Performs : Mode × Operation × ℕ → Outcome → Type 0
+Performs i o = o ≡ outcomeOf (widthOf (i .0)) (i .1) (i .2)
+
+abbrev pub WritesBack : Mode × ℕ × ℕ → ℕ → Type 0
+WritesBack i r = r ≡ writeBack (widthOf (i .0)) (i .1) (i .2)
+
+-- isa
+abbrev pub Decodes : ℕ → Decoded → Type 0
+Decodes w r = decodedTells r ≡ decodeOf w
+
+abbrev pub Encodes : Named → Encoded → Type 0
+Encodes n r = encodedTells r ≡ encodeOf n
+
+abbrev pub TakesImmediate : ℕ → Bool → Type 0
+TakesImmediate w r = r ≡ takesImmediate w
+
+-- plan
+abbrev pub Plans : Named → Plan → Type 0
+Plans n r = r ≡ planOf n
+
+abbrev pub NamesImmediate : Work → Bool → Type 0
+NamesImmediate w r = r ≡ namesI w
+
+-- machine
+abbrev pub Cycles : Machine × Words → Turn → Type 0
+Cycles i r = turnTells r ≡ cycleOf (i .0) (i .1)
+
+abbrev pub MayStart : Waiting → Bool → Type 0
+MayStart w r = r ≡ mayStart w
+
+-- run: the machine, the words, the budget, and the lent reports before the call
+pub record RunInput : Type 0 where
+  pub machine : Machine
+  pub words : List ℕ
+  pub budget : ℕ
+  pub reports : List ℕ
+
+abbrev pub Runs : RunInput → Filling Ran → Type 0
+Runs i o = Gives (i .machine) (runOf (i .machine) (i .words) (i .budget) (length (i .reports))) (o .answer) (i .reports) (o .after)
+
+-- trace: a trace or cycle words, and the lent output before the call
+abbrev pub Checks : List ℕ → ℕ → Type 0
+Checks bytes r = r ≡ checkOf bytes
+
+abbrev pub ReadsTrace : List ℕ × List ℕ → Filling Filled → Type 0
+ReadsTrace i o = Reads (i .0) (o .answer) (i .1) (o .after)
+
+abbrev pub WritesTrace : List ℕ × List ℕ → Filling Filled → Type 0
+WritesTrace i o = Writes (i .0) (o .answer) (i .1) (o .after)
+
+abbrev pub Keeps : ℕ → ℕ → Type 0
+Keeps n r = r ≡ keptLength wordsPerRecord n
+
+-- lines: the text, and the lent slice before the call
+abbrev pub MakesLine : List ℕ × List ℕ → Filling Line → Type 0
+MakesLine i o = Makes (i .0) (o .answer) (i .1) (o .after)
+
+pub record CycleShown : Type 0 where
+  pub number : ℕ
+  pub y : ℕ
+  pub mask : ℕ
+  pub ct : ℕ
+  pub t : ℕ
+
+abbrev pub CycleLines : CycleShown × List ℕ → Filling Line → Type 0
+CycleLines i o = MakesLine (cycleLine (i .0 .number) (i .0 .y) (i .0 .mask) (i .0 .ct) (i .0 .t), i .1) o
+
+abbrev pub StateLines : Registers × List ℕ → Filling Line → Type 0
+StateLines i o = MakesLine (stateLine (i .0), i .1) o
+
+abbrev pub RegisterLines : ℕ × ℕ × List ℕ → Filling Line → Type 0
+RegisterLines i o = MakesLine (registerLine (i .0) (i .1), i .2) o
+
+abbrev pub LastLines : Ending × ℕ × List ℕ → Filling Line → Type 0
+LastLines i o = MakesLine (lastLine (i .0) (i .1), i .2) o
+
+abbrev pub PageLines : Ran × List ℕ × ℕ × List ℕ → Filling Line → Type 0
+PageLines i o = MakesLine (getD (pageOf (i .0) (i .1)) (i .2) [], i .3) o
