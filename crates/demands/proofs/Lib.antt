@@ -6,3 +6,4 @@ pub mod Following
 pub mod Refusals
 pub mod Wrong
 pub mod Examples
+pub mod Conversions
