@@ -30,7 +30,8 @@ use Rattle.run.specs.Runs.{runOf, Gives}
 use Rattle.trace.specs.declared.Filled.{Filled}
 use Rattle.trace.specs.Check.{checkOf}
 use Rattle.trace.specs.Layout.{wordsPerRecord}
-use Rattle.trace.specs.Reading.{Reads, keptLength}
+use Rattle.trace.specs.Limits.{keptLength}
+use Rattle.trace.specs.Reading.{Reads}
 use Rattle.trace.specs.Writing.{Writes}
 use Rattle.lines.specs.declared.Line.{Line}
 use Rattle.lines.specs.Lines.{cycleLine, stateLine, registerLine, lastLine}

@@ -13,7 +13,9 @@ use Rattle.choice.specs.Tells.{Placed, acceptedWhole, refusedAt}
 use Rattle.trace.specs.declared.Filled.the-variants.{Accepted, Refused}
 use Rattle.trace.specs.Layout.{blockBytes}
 use Rattle.trace.specs.Answers.{leaves, Fills}
-use Rattle.trace.specs.Reading.{mostCycles, blocksFor, mostBlocks, traceBlocks, blockRefusals, afterBlocks, recordCount, wholeChecks, endChecks, readEnd, readOf}
+use Rattle.run.specs.Runs.{mostCycles}
+use Rattle.trace.specs.Limits.{blocksFor, mostBlocks}
+use Rattle.trace.specs.Reading.{traceBlocks, blockRefusals, afterBlocks, recordCount, wholeChecks, endChecks, readEnd, readOf}
 use Rattle.trace.specs.Writing.{writeChecks, writeOf}
 use Rattle.trace.proofs.Judged.{all-sound, one-refused, sound-first}
 

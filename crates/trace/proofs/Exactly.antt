@@ -17,7 +17,9 @@ use Rattle.choice.proofs.Picks.{picked, unpicked}
 use Rattle.trace.specs.Layout.{blockBytes, wordAt}
 use Rattle.trace.specs.Blocks.{checkGood, shapeGood, blockRefusal}
 use Rattle.trace.specs.Answers.{orRefused}
-use Rattle.trace.specs.Reading.{mostCycles, mostBlocks, blocksFor, traceBlocks, blockRefusals, afterBlocks, recordCount, wholeChecks, endChecks, readEnd, readOf}
+use Rattle.run.specs.Runs.{mostCycles}
+use Rattle.trace.specs.Limits.{mostBlocks, blocksFor}
+use Rattle.trace.specs.Reading.{traceBlocks, blockRefusals, afterBlocks, recordCount, wholeChecks, endChecks, readEnd, readOf}
 use Rattle.trace.specs.Writing.{writeChecks, writeOf}
 use Rattle.trace.proofs.Judged.{number, afterFrom, after-all, after-none, after-step}
 

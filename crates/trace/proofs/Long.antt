@@ -9,7 +9,8 @@ use lib.ListN.{length}
 use borrow.Author.Tests.{eqb-true, eqb-false, ltb-true, ltb-false, lt-ltb, le-ltb}
 use Rattle.choice.proofs.Picks.{picked, unpicked}
 use Rattle.trace.specs.Layout.{blockBytes}
-use Rattle.trace.specs.Reading.{mostBlocks, readOf, tooLong, keptLength}
+use Rattle.trace.specs.Limits.{mostBlocks, tooLong, keptLength}
+use Rattle.trace.specs.Reading.{readOf}
 use Rattle.trace.proofs.Answered.{read-11, read-many}
 
 module _ (w : ℕ) where

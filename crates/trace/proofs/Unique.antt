@@ -9,7 +9,8 @@ use Rattle.trace.specs.declared.Filled.the-variants.{Accepted, Refused}
 use Rattle.trace.specs.Check.{checkOf}
 use Rattle.trace.specs.Answers.{filledTells, Fills}
 use Rattle.trace.specs.Layout.{wordsPerRecord}
-use Rattle.trace.specs.Reading.{Reads, keptLength}
+use Rattle.trace.specs.Limits.{keptLength}
+use Rattle.trace.specs.Reading.{Reads}
 use Rattle.trace.specs.Writing.{Writes}
 
 -- what an answer tells fixes it

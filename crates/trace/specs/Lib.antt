@@ -2,5 +2,6 @@ pub mod Check
 pub mod Layout
 pub mod Blocks
 pub mod Answers
+pub mod Limits
 pub mod Reading
 pub mod Writing

@@ -8,19 +8,11 @@ use Rattle.choice.specs.Pick.{pick}
 use Rattle.choice.specs.Checks.{Check, check, refusal}
 use Rattle.choice.specs.Tells.{Placed, acceptedWhole, refusedAt}
 use Rattle.trace.specs.declared.Filled.{Filled}
+use Rattle.run.specs.Runs.{mostCycles}
+use Rattle.trace.specs.Limits.{mostBlocks}
 use Rattle.trace.specs.Layout.{wordsPerRecord, blockBytes, blockWords, joined}
 use Rattle.trace.specs.Blocks.{countOf, blockRefusal, recordWords}
 use Rattle.trace.specs.Answers.{orRefused, Fills}
-
-abbrev pub mostCycles : ℕ
-mostCycles = 4096
-
--- the blocks that n words take, and the most that a trace has: 49 with three words a record
-abbrev pub blocksFor : ℕ → ℕ
-blocksFor n = (n + (blockWords - 1)) / blockWords
-
-abbrev pub mostBlocks : ℕ → ℕ
-mostBlocks w = blocksFor (w * mostCycles)
 
 -- the first m blocks of a trace
 abbrev pub blocksOf : ℕ → List ℕ → List (List ℕ)
@@ -74,12 +66,3 @@ readOf w trace room =
 -- what the reader promises: a trace, its answer, and the lent cycle words before and after
 abbrev pub Reads : List ℕ → Filled → List ℕ → List ℕ → Type 0
 Reads trace r before after = Fills (readOf wordsPerRecord trace (length before)) (readWords wordsPerRecord trace) r before after
-
--- the bytes of one block more than a trace may have
-abbrev pub tooLong : ℕ → ℕ
-tooLong w = (mostBlocks w + 1) * blockBytes
-
--- how many of the first bytes of an input of n bytes are kept to answer as of all of it. From `tooLong` on it is refused in any case, with
--- 11 or 2 by the remainder (document 01, the reader's order of checks)
-unfoldable pub keptLength : ℕ → ℕ → ℕ
-keptLength w n = pick (ltb n (tooLong w)) n (tooLong w + n % blockBytes)

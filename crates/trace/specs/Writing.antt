@@ -10,7 +10,8 @@ use Rattle.trace.specs.declared.Filled.{Filled}
 use Rattle.trace.specs.Layout.{wordsPerRecord, blockBytes, blockWords, joined}
 use Rattle.trace.specs.Blocks.{blockOf}
 use Rattle.trace.specs.Answers.{orRefused, Fills}
-use Rattle.trace.specs.Reading.{mostCycles, blocksFor}
+use Rattle.run.specs.Runs.{mostCycles}
+use Rattle.trace.specs.Limits.{blocksFor}
 
 -- m blocks from number k on: 252 words each, and what is left in the last
 abbrev pub blocksFrom : ℕ → ℕ → ℕ → List ℕ → List (List ℕ)

@@ -7,7 +7,8 @@ mod making; // making.rt: words into blocks
 ghost use mathlib.Core.Path.{_≡_};
 ghost use Rattle.trace.specs.Check.{checkOf};
 ghost use Rattle.trace.specs.Layout.{wordsPerRecord};
-ghost use Rattle.trace.specs.Reading.{Reads, keptLength};
+ghost use Rattle.trace.specs.Limits.{keptLength};
+ghost use Rattle.trace.specs.Reading.{Reads};
 ghost use Rattle.trace.specs.Writing.{Writes};
 
 // The words of a record, and those that a block has room for.

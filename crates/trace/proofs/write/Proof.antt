@@ -2,7 +2,7 @@
 use Prim.Native.Nat.{_*_}
 use lib.ListN.{length}
 use borrow.Author.Needs.{needs}
-use Rattle.trace.specs.Reading.{blocksFor}
+use Rattle.trace.specs.Limits.{blocksFor}
 use Rattle.trace.proofs.Answered.{refuses, accepts, write-1, write-2, write-3, write-done}
 use Rattle.trace.proofs.write.Statement.{statement}
 use Rattle.trace.proofs.write.Tie as tie
