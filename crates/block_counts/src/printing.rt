@@ -4,18 +4,18 @@ use trace::Filled;
 ghost use Prim.Native.Nat.{_≤_, _<_};
 
 // What stands in each word and in each byte of lent output before a call.
-pub const WORD_FILL: u16 = 0xA5A5;
+pub(crate) const WORD_FILL: u16 = 0xA5A5;
 
-pub const BYTE_FILL: u8 = 0xA5;
+pub(crate) const BYTE_FILL: u8 = 0xA5;
 
 // The units that are shown of the beginning and of the end.
 const SHOWN: usize = 8;
 
-pub fn print(text: &[u8]) {
+pub(crate) fn print(text: &[u8]) {
     io::write_all(STDOUT_FILENO, text);
 }
 
-pub fn print_number(n: usize) {
+pub(crate) fn print_number(n: usize) {
     io::print_decimal(STDOUT_FILENO, n as u64);
 }
 
@@ -38,7 +38,7 @@ fn print_byte(byte: u16)
 }
 
 // A blank and a unit.
-pub fn print_unit(unit: u16, wide: bool) {
+pub(crate) fn print_unit(unit: u16, wide: bool) {
     print(b" ");
     if wide {
         print_byte(unit / 256);
@@ -120,7 +120,7 @@ fn print_refused(number: u8, index: usize) {
 }
 
 // The answer of a call, with the whole of the output that was lent to it.
-pub fn print_answer(answer: Filled, units: &[u16], wide: bool) {
+pub(crate) fn print_answer(answer: Filled, units: &[u16], wide: bool) {
     print(b" room ");
     print_number(units.len());
     print(b"\n");
