@@ -1,4 +1,4 @@
--- What the parts of decoder and encoder answer. The decision over quadrant, A and B answers a slot by the number of its first row.
+-- What the parts of decoder and encoder answer, for their contracts: document 01's rules stand in Table, Slots and Words. The decision over quadrant, A and B answers a slot by the number of its first row.
 use Prim.Native.Nat.{ℕ, _<_}
 use mathlib.Core.List.{List, [], _∷_}
 use mathlib.Core.Bool.{not}

@@ -1,4 +1,4 @@
--- Sets of field values: bit k of a set says whether k is in it.
+-- Sets of field values, for the lists of document 01's instruction list: bit k of a set says whether k is in it.
 use Prim.Native.Nat.{ℕ, _+_, _-_, _/_, _%_, _^_}
 use mathlib.Core.Bool.{Bool}
 use mathlib.Core.List.{List, [], _∷_}

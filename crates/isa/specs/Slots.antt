@@ -1,4 +1,4 @@
--- Which row a word belongs to: first by bits 15 to 5, its slot, and then by field C.
+-- Which row a word belongs to: first by bits 15 to 5, its slot, and then by field C (document 01, the instruction list).
 use Prim.Native.Nat.{ℕ, suc}
 use mathlib.Core.Bool.{Bool, true, false}
 use mathlib.Core.List.{List, [], _∷_}

@@ -81,7 +81,7 @@ pub enum Encoded {
 fn judge(number: u8, mark: u8, a: u8, b: u8, c: u8) -> Decoded
     ensures { λ r. ⌜ decodedTells r ≡ judgeOf number mark a b c ⌝ }
 {
-    if 27 <= number {
+    if number::NONE <= number {
         return Decoded::Refused(7);
     }
     let row = table::row_at(number as usize);

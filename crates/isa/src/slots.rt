@@ -9,13 +9,14 @@ ghost use lib.Dec.{eqb};
 ghost use mathlib.Core.List.{[], _∷_};
 ghost use Rattle.choice.specs.Along.{Along, same};
 ghost use Rattle.choice.specs.Pick.{pick};
+ghost use Rattle.isa.specs.declared.Family.the-variants.{Bonr};
 ghost use Rattle.isa.specs.Sets.{has, these};
-ghost use Rattle.isa.specs.Table.{noRow, destinations, yOrAcc, flags, twiceCodes};
+ghost use Rattle.isa.specs.Table.{noRow, numberOf, destinations, yOrAcc, flags, twiceCodes};
 ghost use Rattle.isa.specs.Slots.{withC, rowOf};
 ghost use Rattle.isa.specs.Decision.{slotOf, sharing};
 
 // The row, if a test holds.
-fn kept(row: u8, holds: bool) -> u8
+fn row_if(row: u8, holds: bool) -> u8
     ensures { λ r. ⌜ r ≡ pick holds row noRow ⌝ }
 {
     if holds { row } else { number::NONE }
@@ -338,7 +339,7 @@ fn is_zero(c: u8) -> bool
 
 // Field C in the slot of BONR and ROTNR.
 fn bit_or_turn(c: u8) -> u8
-    ensures { λ r. ⌜ Along eqb 32 (λ k. withC (sharing 19) k) c r ⌝ }
+    ensures { λ r. ⌜ Along eqb 32 (λ k. withC (sharing (numberOf Bonr)) k) c r ⌝ }
 {
     match c {
         0..=2 => number::BONR,
@@ -357,15 +358,15 @@ fn with_c(slot: u8, c: u8) -> u8
     ensures { λ r. ⌜ r ≡ withC (sharing slot) c ⌝ }
 {
     match slot {
-        0..=14 => slot,
-        15..=16 => kept(slot, is_destination(c)),
-        17 => kept(slot, is_y_or_acc(c)),
-        18 => slot,
-        19..=20 => bit_or_turn(c),
-        21..=22 => kept(slot, is_y_or_acc(c)),
-        23..=24 => kept(slot, is_flag(c)),
-        25 => kept(slot, is_twice_code(c)),
-        26 => kept(slot, is_zero(c)),
+        number::TOR1..=number::SVSTR => slot,
+        number::SONR..=number::TONR => row_if(slot, is_destination(c)),
+        number::SHFTNR => row_if(slot, is_y_or_acc(c)),
+        number::BOR1 => slot,
+        number::BONR..=number::ROTNR => bit_or_turn(c),
+        number::PRTNR..=number::SVSTNR => row_if(slot, is_y_or_acc(c)),
+        number::SETST..=number::RSTST => row_if(slot, is_flag(c)),
+        number::TEST => row_if(slot, is_twice_code(c)),
+        number::NOOP => row_if(slot, is_zero(c)),
         _ => number::NONE,
     }
 }

@@ -1,6 +1,7 @@
 // The instruction list of document 01 as a table, which the decoder and the encoder go by.
 use crate::Family;
 use crate::Row;
+use crate::number;
 ghost use mathlib.Core.Path.{_≡_};
 ghost use Prim.Native.Nat.{_<_};
 ghost use Rattle.isa.specs.Table.{rowAt, numberOf};
@@ -337,32 +338,32 @@ pub(crate) fn number_of(family: Family) -> u8
     ensures { λ r. ⌜ r ≡ numberOf family ⌝ }
 {
     match family {
-        Family::Tor1 => 0,
-        Family::Rotr1 => 1,
-        Family::Rotr2 => 2,
-        Family::Rotc => 3,
-        Family::Rotm => 4,
-        Family::Sor => 5,
-        Family::Bor2 => 6,
-        Family::Tor2 => 7,
-        Family::Shftr => 8,
-        Family::Crcf => 9,
-        Family::Crcr => 10,
-        Family::Prt1 => 11,
-        Family::Prt2 => 12,
-        Family::Prt3 => 13,
-        Family::Svstr => 14,
-        Family::Sonr => 15,
-        Family::Tonr => 16,
-        Family::Shftnr => 17,
-        Family::Bor1 => 18,
-        Family::Bonr => 19,
-        Family::Rotnr => 20,
-        Family::Prtnr => 21,
-        Family::Svstnr => 22,
-        Family::Setst => 23,
-        Family::Rstst => 24,
-        Family::Test => 25,
-        Family::Noop => 26,
+        Family::Tor1 => number::TOR1,
+        Family::Rotr1 => number::ROTR1,
+        Family::Rotr2 => number::ROTR2,
+        Family::Rotc => number::ROTC,
+        Family::Rotm => number::ROTM,
+        Family::Sor => number::SOR,
+        Family::Bor2 => number::BOR2,
+        Family::Tor2 => number::TOR2,
+        Family::Shftr => number::SHFTR,
+        Family::Crcf => number::CRCF,
+        Family::Crcr => number::CRCR,
+        Family::Prt1 => number::PRT1,
+        Family::Prt2 => number::PRT2,
+        Family::Prt3 => number::PRT3,
+        Family::Svstr => number::SVSTR,
+        Family::Sonr => number::SONR,
+        Family::Tonr => number::TONR,
+        Family::Shftnr => number::SHFTNR,
+        Family::Bor1 => number::BOR1,
+        Family::Bonr => number::BONR,
+        Family::Rotnr => number::ROTNR,
+        Family::Prtnr => number::PRTNR,
+        Family::Svstnr => number::SVSTNR,
+        Family::Setst => number::SETST,
+        Family::Rstst => number::RSTST,
+        Family::Test => number::TEST,
+        Family::Noop => number::NOOP,
     }
 }

@@ -1,6 +1,7 @@
 // What is printed of a run, line after line.
 use crate::Line;
 use run::Ran;
+use run::WORDS_PER_REPORT;
 ghost use mathlib.Core.Path.{_≡_};
 ghost use mathlib.Core.List.{[]};
 ghost use Prim.Native.Nat.{_+_, _*_, _≤_};
@@ -8,8 +9,6 @@ ghost use lib.ListN.{getD};
 ghost use Rattle.run.specs.Splitting.{wordsPerReport};
 ghost use Rattle.lines.specs.Answers.{Makes};
 ghost use Rattle.lines.specs.Pages.{reportLine, pageOf};
-
-const WORDS_PER_REPORT: usize = 4;
 
 const REGISTERS: usize = 32;
 

@@ -1,4 +1,4 @@
--- What an instruction does with what it sees.
+-- What an instruction does with what it sees (document 01, what the instructions do).
 use Prim.Native.Nat.{ℕ, _+_, _-_, _*_, _/_, _%_}
 use lib.Bits.{bitAnd, bitOr}
 use Rattle.alu.specs.declared.Mode.{Mode}

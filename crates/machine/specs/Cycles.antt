@@ -1,4 +1,4 @@
--- One cycle: judged, seen, done, settled and reported.
+-- One cycle: judged, seen, done, settled and reported (document 01, the machine and one cycle).
 use Prim.Native.Nat.{ℕ}
 use Rattle.choice.specs.Pick.{pick}
 use Rattle.choice.specs.Tells.{Tells, accepted, refused}

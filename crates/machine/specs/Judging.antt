@@ -1,4 +1,5 @@
--- Whether a cycle is refused, waits, or performs an instruction. No register but the waiting word is looked at.
+-- Whether a cycle is refused, waits, or performs an instruction (document 01, the machine and one cycle; runs, blocks and refusal numbers).
+-- No register but the waiting word is looked at.
 use Prim.Native.Nat.{ℕ}
 use mathlib.Core.Bool.{Bool, true, false, not}
 use mathlib.Core.List.{List, [], _∷_}

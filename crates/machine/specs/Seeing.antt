@@ -1,4 +1,5 @@
--- What an instruction sees: the named register, ACC, D and the I operand at its width, and the status.
+-- What an instruction sees: the named register, ACC, D and the I operand at its width, and the status (document 01, what the instructions
+-- do).
 use Prim.Native.Nat.{ℕ, _+_, _*_, _/_, _%_}
 use lib.ListN.{getD}
 use Rattle.alu.specs.declared.Mode.{Mode}

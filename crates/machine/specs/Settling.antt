@@ -1,4 +1,4 @@
--- What is written: the only place where a register changes.
+-- What is written: the only place where a register changes (document 01, the machine and one cycle; what the instructions do).
 use Prim.Native.Nat.{ℕ, _/_, _%_}
 use mathlib.Core.List.{List}
 use lib.ListN.{getD, set}

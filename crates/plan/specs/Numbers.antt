@@ -1,4 +1,4 @@
--- A number for each variant of the small enums, by which two of them are told apart in a test.
+-- A number for each variant of the small enums, by which the contracts of the tables tell two of them apart. The numbers mean nothing else.
 use mathlib.Core.Bool.{Bool}
 use Prim.Native.Nat.{ℕ}
 use lib.Dec.{eqb}

@@ -1,4 +1,5 @@
--- What is read off a plan: whether the instruction has an I operand and, for the law that holds plans to the list, whether it writes RAM.
+-- What is read off a plan: whether the instruction has an I operand (document 01, the machine and one cycle) and, for the law that holds
+-- plans to the list, whether it writes RAM.
 use mathlib.Core.Bool.{Bool, true, false}
 use Rattle.choice.specs.Pick.{pick}
 use Rattle.plan.specs.declared.Source.{Source}

@@ -1,4 +1,5 @@
--- The cycles of some words one after another, whatever becomes of them: what a run's reports, counts and end are compared with.
+-- The cycles of some words one after another, whatever becomes of them: what a run's reports, counts and end are compared with (document 01,
+-- runs; what the statements say).
 use mathlib.Core.Path.{_≡_}
 use Prim.Native.Nat.{ℕ, zero, suc, _+_, _*_, _<_}
 use mathlib.Core.List.{List, []}

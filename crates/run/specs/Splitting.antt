@@ -1,4 +1,4 @@
--- The words of a run as cycles, and the words of a report.
+-- The words of a run as cycles, and the words of a report (document 01, the machine and one cycle).
 use Prim.Native.Nat.{ℕ, zero, suc, _+_, _*_, _/_}
 use mathlib.Core.List.{List, [], _∷_}
 use lib.ListN.{length, getD}

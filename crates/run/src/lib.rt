@@ -18,10 +18,10 @@ ghost use Rattle.run.specs.Runs.{mostCycles, startChecks, runOf, Gives};
 // The words of a cycle, and of a report.
 const WORDS_PER_CYCLE: usize = 3;
 
-const WORDS_PER_REPORT: usize = 4;
+pub const WORDS_PER_REPORT: usize = 4;
 
 // The most cycles of a run.
-const MOST_CYCLES: usize = 4096;
+pub const MOST_CYCLES: usize = 4096;
 
 // How a run ends. A refusal has its number, and the index of the cycle or 0.
 pub enum Ending {

@@ -1,4 +1,4 @@
--- What reader and writer answer, and what they leave in lent output.
+-- What reader and writer answer, and what they leave in lent output (document 01, runs, blocks and refusal numbers).
 use mathlib.Core.Path.{_≡_}
 use Prim.Native.Nat.{ℕ}
 use mathlib.Core.List.{List, _++_}

@@ -40,12 +40,9 @@ recordCount (block ∷ blocks) = countOf block + recordCount blocks
 abbrev pub allRecordWords : ℕ → List (List ℕ) → List ℕ
 allRecordWords w blocks = joined (map (recordWords w) blocks)
 
--- the cycle words that are given out for the words of records: the same
-abbrev pub givenOut : ℕ → List ℕ → List ℕ
-givenOut w words = words
-
+-- the cycle words that are given out are those of the records
 abbrev pub readWords : ℕ → List ℕ → List ℕ
-readWords w trace = givenOut w (allRecordWords w (traceBlocks trace))
+readWords w trace = allRecordWords w (traceBlocks trace)
 
 -- the refusals of a whole trace, before its blocks are looked at and after
 abbrev pub wholeChecks : ℕ → ℕ → List Check

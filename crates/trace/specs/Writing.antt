@@ -18,12 +18,9 @@ abbrev pub blocksFrom : ℕ → ℕ → ℕ → List ℕ → List (List ℕ)
 blocksFrom w zero k words = []
 blocksFrom w (suc m) k words = blockOf w k (take blockWords words) ∷ blocksFrom w m (k + 1) (drop blockWords words)
 
--- the words of records that are taken in for cycle words: the same
-abbrev pub takenIn : ℕ → List ℕ → List ℕ
-takenIn w words = words
-
+-- the words of the records are the cycle words
 abbrev pub traceOf : ℕ → List ℕ → List ℕ
-traceOf w words = joined (blocksFrom w (blocksFor (length (takenIn w words))) 0 (takenIn w words))
+traceOf w words = joined (blocksFrom w (blocksFor (length words)) 0 words)
 
 -- n cycle words, into room for bytes
 abbrev pub writeChecks : ℕ → ℕ → ℕ → List Check

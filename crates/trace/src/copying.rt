@@ -1,5 +1,8 @@
 // The records of sound blocks into words.
 use crate::judging::wide;
+use crate::layout::BLOCK_BYTES;
+use crate::layout::RECORDS_AT;
+use crate::layout::WORDS_PER_RECORD;
 ghost use mathlib.Core.Path.{_≡_};
 ghost use mathlib.Core.List.{_++_};
 ghost use Prim.Native.Nat.{_+_, _*_, _≤_};
@@ -32,9 +35,9 @@ fn copy_block(block: &[u8], out: &mut [u16]) -> usize
     requires { ⌜ (length (now block) ≡ 512) × (countOf (now block) ≤ 84) × (wordsPerRecord * countOf (now block) ≤ length (now out)) ⌝ }
     ensures { λ r. ⌜ (r ≡ wordsPerRecord * countOf (now (block .entry))) × (now (out .exit) ≡ recordWords wordsPerRecord (now (block .entry)) ++ drop r (now (out .entry))) ⌝ }
 {
-    let words = 3 * wide(block[2]);
-    let end = 4 + 2 * words;
-    copy_words(&block[4..end], &mut out[..words]);
+    let words = WORDS_PER_RECORD * wide(block[2]);
+    let end = RECORDS_AT + 2 * words;
+    copy_words(&block[RECORDS_AT..end], &mut out[..words]);
     words
 }
 
@@ -46,8 +49,8 @@ pub(crate) fn copy_all(blocks: usize, records: usize, trace: &[u8], cycles: &mut
     let mut k: usize = 0;
     let mut filled: usize = 0;
     while k < blocks {
-        let at = k * 512;
-        filled += copy_block(&trace[at..at + 512], &mut cycles[filled..]);
+        let at = k * BLOCK_BYTES;
+        filled += copy_block(&trace[at..at + BLOCK_BYTES], &mut cycles[filled..]);
         k += 1;
     }
 }

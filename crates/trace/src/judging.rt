@@ -1,5 +1,11 @@
 // What a block is refused for, and the first block of a trace that is.
 use crate::Filled;
+use crate::layout::BLOCK_BYTES;
+use crate::layout::CHECK_AT;
+use crate::layout::CHECK_LOW_AT;
+use crate::layout::FULL_COUNT;
+use crate::layout::RECORDS_AT;
+use crate::layout::WORDS_PER_RECORD;
 ghost use mathlib.Core.Path.{_≡_};
 ghost use Prim.Native.Nat.{_+_, _*_, _≤_, _<_};
 ghost use lib.ListN.{length};
@@ -8,9 +14,6 @@ ghost use Rattle.trace.specs.Layout.{wordsPerRecord, wordAt};
 ghost use Rattle.trace.specs.Blocks.{countGood, allZero, shapeGood, checkHeld, checkGood, blockRefusal};
 ghost use Rattle.trace.specs.Answers.{filledTells};
 ghost use Rattle.trace.specs.Reading.{blocksOf, blockRefusals, afterBlocks, recordCount};
-
-// The records of a full block.
-const FULL_COUNT: usize = 84;
 
 pub(crate) fn wide(x: u8) -> usize
     ensures { λ r. ⌜ (r ≡ x) × (r < 256) ⌝ }
@@ -62,11 +65,11 @@ fn shape_good(left: usize, block: &[u8]) -> bool
     if wide(block[3]) != 0 {
         return false;
     }
-    let end = 4 + 2 * (3 * count);
-    all_zero(&block[end..510])
+    let end = RECORDS_AT + 2 * (WORDS_PER_RECORD * count);
+    all_zero(&block[end..CHECK_AT])
 }
 
-fn number_of(block: &[u8]) -> usize
+fn block_number(block: &[u8]) -> usize
     requires { ⌜ length (now block) ≡ 512 ⌝ }
     ensures { λ r. ⌜ r ≡ wordAt (now (block .entry)) 0 ⌝ }
 {
@@ -77,14 +80,14 @@ fn check_held(block: &[u8]) -> usize
     requires { ⌜ length (now block) ≡ 512 ⌝ }
     ensures { λ r. ⌜ r ≡ checkHeld (now (block .entry)) ⌝ }
 {
-    256 * wide(block[510]) + wide(block[511])
+    256 * wide(block[CHECK_AT]) + wide(block[CHECK_LOW_AT])
 }
 
 fn check_good(block: &[u8]) -> bool
     requires { ⌜ length (now block) ≡ 512 ⌝ }
     ensures { λ r. ⌜ r ≡ checkGood (now (block .entry)) ⌝ }
 {
-    wide_word(crate::check(&block[0..510])) == check_held(block)
+    wide_word(crate::check(&block[0..CHECK_AT])) == check_held(block)
 }
 
 // The number that block k gets, 0 where it is sound; `left` blocks follow.
@@ -95,7 +98,7 @@ fn block_refusal(k: usize, left: usize, block: &[u8]) -> u8
     if !check_good(block) {
         return 12;
     }
-    if number_of(block) != k {
+    if block_number(block) != k {
         return 13;
     }
     if shape_good(left, block) { 0 } else { 14 }
@@ -109,8 +112,8 @@ pub(crate) fn judge(blocks: usize, trace: &[u8]) -> Filled
     let mut k: usize = 0;
     let mut records: usize = 0;
     while k < blocks {
-        let at = k * 512;
-        let number = block_refusal(k, blocks - k - 1, &trace[at..at + 512]);
+        let at = k * BLOCK_BYTES;
+        let number = block_refusal(k, blocks - k - 1, &trace[at..at + BLOCK_BYTES]);
         if number != 0 {
             return Filled::Refused(number, k);
         }

@@ -1,30 +1,23 @@
 // Trace blocks: cycle words into blocks of 512 bytes, and back.
+mod layout; // layout.rt: where things stand in a block
 mod checking; // checking.rt: the machine carried through CRCF
 mod judging; // judging.rt: what a block is refused for
 mod copying; // copying.rt: the records of blocks into words
 mod making; // making.rt: words into blocks
 
+use layout::BLOCK_BYTES;
+use layout::BLOCK_WORDS;
+use layout::MOST_BLOCKS;
+use layout::ONE_WORD_LESS;
+use layout::TOO_LONG;
+use layout::WORDS_PER_RECORD;
+use run::MOST_CYCLES;
 ghost use mathlib.Core.Path.{_≡_};
 ghost use Rattle.trace.specs.Check.{checkOf};
 ghost use Rattle.trace.specs.Layout.{wordsPerRecord};
 ghost use Rattle.trace.specs.Limits.{keptLength};
 ghost use Rattle.trace.specs.Reading.{Reads};
 ghost use Rattle.trace.specs.Writing.{Writes};
-
-// The words of a record, and those that a block has room for.
-const WORDS_PER_RECORD: usize = 3;
-
-const BLOCK_WORDS: usize = 252;
-
-const BLOCK_BYTES: usize = 512;
-
-// The most cycles of a trace, and the blocks that they take.
-const MOST_CYCLES: usize = 4096;
-
-const MOST_BLOCKS: usize = 49;
-
-// The bytes of one block more.
-const TOO_LONG: usize = 25600;
 
 // How much of the lent output is filled; or the number of the refusal and the index of the block, 0 where it is of no block.
 pub enum Filled {
@@ -92,7 +85,7 @@ pub fn write(words: &[u16], trace: &mut [u8]) -> Filled
     if MOST_CYCLES < words.len() / WORDS_PER_RECORD {
         return Filled::Refused(2, 0);
     }
-    let blocks = (words.len() + 251) / BLOCK_WORDS;
+    let blocks = (words.len() + ONE_WORD_LESS) / BLOCK_WORDS;
     if trace.len() < blocks * BLOCK_BYTES {
         return Filled::Refused(3, 0);
     }

@@ -1,4 +1,9 @@
 // Words into blocks.
+use crate::layout::BLOCK_BYTES;
+use crate::layout::BLOCK_WORDS;
+use crate::layout::CHECK_AT;
+use crate::layout::RECORDS_AT;
+use crate::layout::WORDS_PER_RECORD;
 ghost use mathlib.Core.Path.{_≡_};
 ghost use mathlib.Core.List.{[], _∷_, _++_};
 ghost use Prim.Native.Nat.{_+_, _*_, _/_, _%_, _≤_, _<_, min};
@@ -49,7 +54,7 @@ fn put_head(k: usize, words: usize, head: &mut [u8])
 {
     head[0] = (k % 256) as u8;
     head[1] = (k / 256) as u8;
-    head[2] = (words / 3) as u8;
+    head[2] = (words / WORDS_PER_RECORD) as u8;
     head[3] = 0;
 }
 
@@ -59,10 +64,10 @@ fn put_body(k: usize, words: &[u16], body: &mut [u8])
     ensures { λ _. ⌜ now (body .exit) ≡ bodyOf wordsPerRecord k (now (words .entry)) ⌝ }
 {
     let n = words.len();
-    let end = 4 + 2 * n;
-    put_head(k, n, &mut body[0..4]);
-    put_words(words, &mut body[4..end]);
-    put_zeros(&mut body[end..510]);
+    let end = RECORDS_AT + 2 * n;
+    put_head(k, n, &mut body[0..RECORDS_AT]);
+    put_words(words, &mut body[RECORDS_AT..end]);
+    put_zeros(&mut body[end..CHECK_AT]);
 }
 
 fn put_check(sum: u16, pair: &mut [u8])
@@ -77,9 +82,9 @@ fn write_block(k: usize, words: &[u16], block: &mut [u8])
     requires { ⌜ (k < 65536) × (length (now words) ≤ 252) × (length (now block) ≡ 512) ⌝ }
     ensures { λ _. ⌜ now (block .exit) ≡ blockOf wordsPerRecord k (now (words .entry)) ⌝ }
 {
-    put_body(k, words, &mut block[0..510]);
-    let sum = crate::check(&block[0..510]);
-    put_check(sum, &mut block[510..512]);
+    put_body(k, words, &mut block[0..CHECK_AT]);
+    let sum = crate::check(&block[0..CHECK_AT]);
+    put_check(sum, &mut block[CHECK_AT..BLOCK_BYTES]);
 }
 
 fn least(a: usize, b: usize) -> usize
@@ -95,10 +100,10 @@ pub(crate) fn write_blocks(blocks: usize, words: &[u16], trace: &mut [u8])
 {
     let mut k: usize = 0;
     while k < blocks {
-        let from = k * 252;
-        let at = k * 512;
-        let n = least(words.len() - from, 252);
-        write_block(k, &words[from..from + n], &mut trace[at..at + 512]);
+        let from = k * BLOCK_WORDS;
+        let at = k * BLOCK_BYTES;
+        let n = least(words.len() - from, BLOCK_WORDS);
+        write_block(k, &words[from..from + n], &mut trace[at..at + BLOCK_BYTES]);
         k += 1;
     }
 }

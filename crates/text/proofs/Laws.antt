@@ -1,0 +1,37 @@
+-- Each call's outcome is determined by its statement, and a text may come in pieces.
+use mathlib.Core.Path.{_≡_, refl, sym, _∙_}
+use mathlib.Core.List.{List, [], _∷_, _++_}
+use Prim.Native.Nat.{ℕ, suc}
+use lib.ListN.{length}
+use Rattle.text.specs.declared.Expected.{Expected}
+use Rattle.text.specs.declared.Met.{Met}
+use Rattle.text.specs.declared.Reader.{Reader}
+use Rattle.text.specs.declared.Stop.{Stop}
+use Rattle.text.specs.declared.Taken.{Taken}
+use Rattle.text.specs.Taking.{startOf, passed, keptWord, withWord, withFault, faultAt, Took, stopsAt, moveAt, metBy, takeFrom, Takes}
+
+pub start-unique : (r q : Reader) → r ≡ startOf → q ≡ startOf → r ≡ q
+start-unique r q e f = e ∙ sym f
+
+pub take-unique : (s : Reader) (text : List ℕ) (r q : Taken) (before after left : List ℕ) → Takes s text r before after → Takes s text q before left
+    → (r ≡ q) × (after ≡ left)
+take-unique s text r q before after left t u = (t .taken ∙ sym (u .taken), t .written ∙ sym (u .written))
+
+-- what follows a piece of a text: the next piece, unless there was a fault
+abbrev pub goesOn : Took → List ℕ → Took
+goesOn t rest = elim (t .taken .stop) [ Stop.TextEnd ↦ takeFrom (t .taken .bytes) (t .taken .reader) rest (t .words) | Stop.Bad f ↦ t ]
+
+by-met : (x : Met) (rest : List ℕ) (n m : Took) (w v : ℕ → Took) (f : Expected → Took) → n ≡ goesOn m rest → ((y : ℕ) → w y ≡ goesOn (v y) rest)
+    → ((e : Expected) → f e ≡ goesOn (f e) rest) → metBy x n w f ≡ goesOn (metBy x m v f) rest
+by-met Met.Nothing rest n m w v f p q r = p
+by-met (Met.Word y) rest n m w v f p q r = q y
+by-met (Met.Fault e) rest n m w v f p q r = r e
+
+pub in-pieces : (i : ℕ) (s : Reader) (text rest words : List ℕ) → takeFrom i s (text ++ rest) words ≡ goesOn (takeFrom i s text words) rest
+unfolding takeFrom
+in-pieces i s [] rest words = refl
+in-pieces i s (b ∷ text) rest words =
+    by-met (moveAt s b .met) rest _ _ _ _ (λ e. stopsAt (withFault (passed s (moveAt s b) b)) (suc i) (Stop.Bad (faultAt s e)) words)
+    (in-pieces (suc i) (passed s (moveAt s b) b) text rest words)
+    (λ y. in-pieces (suc i) (withWord (passed s (moveAt s b) b) (length words)) text rest (keptWord (s .found) y words))
+    (λ e. refl)

@@ -1,0 +1,3 @@
+mod Among
+mod Turns
+pub mod Laws
