@@ -3,3 +3,4 @@ pub mod Answered
 pub mod Putting
 pub mod Paged
 pub mod Shown
+mod Worded

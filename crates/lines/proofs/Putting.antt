@@ -15,7 +15,7 @@ use Rattle.lines.specs.Putting.{Puts}
 use Rattle.lines.proofs.Answered.{makes-as}
 
 -- what two texts have in common from a place on, they have from a later place on
-later : (x y : List ℕ) (p n r : ℕ) → drop p x ≡ drop p y → r ≡ p + n → drop r x ≡ drop r y
+pub later : (x y : List ℕ) (p n r : ℕ) → drop p x ≡ drop p y → r ≡ p + n → drop r x ≡ drop r y
 later x y p n r e q = rw (q, ← drop-drop n p x, ← drop-drop n p y, e)
 
 -- text put through &mut line[at..end]: `made` is what the callee left there

@@ -3,3 +3,4 @@ pub mod Lines
 pub mod Answers
 pub mod Putting
 pub mod Pages
+pub mod Words

@@ -1,12 +1,15 @@
-// The lines that are printed of a run, as text in ASCII. A line is made in full before any of it is handed over.
+// The lines that are printed, of a run and of a trace, as text in ASCII. A line is made in full before any of it is handed over.
 mod digits; // digits.rt: numbers into digits
 mod fields; // fields.rt: the fields of a line, one after another
 mod page; // page.rt: which line comes when
+mod words; // words.rt: a trace as text
 
 use machine::Registers;
 use machine::Waiting;
 pub use page::page_line;
 use run::Ending;
+pub use words::fault_line;
+pub use words::words_line;
 ghost use mathlib.Core.List.{[], _∷_, _++_};
 ghost use Prim.Native.Nat.{_+_, _≤_};
 ghost use lib.ListN.{length};

@@ -1,0 +1,44 @@
+-- A trace as text: a line of hex words a cycle, and what is said of a line that cannot be read. Document 01 has no such text: its form is
+-- ours (docs/DECISIONS.md).
+use Prim.Native.Nat.{ℕ, _*_, _/_}
+use mathlib.Core.List.{List, [], _∷_, _++_}
+use lib.Dec.{ltb}
+use lib.ListN.{length, take, drop}
+use Rattle.choice.specs.Pick.{pick}
+use Rattle.text.specs.declared.Expected.{Expected}
+use Rattle.text.specs.declared.Expected.the-variants.{Digit, Blank, Word, LineEnd}
+use Rattle.text.specs.declared.Fault.{Fault}
+use Rattle.text.specs.Lines.{wordsPerLine}
+use Rattle.lines.specs.Text.{newline, blank, hex, decimal}
+
+-- what stands after a word, with these words still to come
+abbrev pub afterWord : List ℕ → ℕ
+afterWord [] = newline
+afterWord (x ∷ words) = blank
+
+-- the words of a line, and its end; no text for no words
+abbrev pub wordsText : List ℕ → List ℕ
+wordsText [] = []
+wordsText (x ∷ words) = (hex 4 x ++ afterWord words ∷ []) ++ wordsText words
+
+-- the line of cycle i of some cycle words, and no text where there is none
+unfoldable pub wordsLine : List ℕ → ℕ → List ℕ
+wordsLine words i = pick (ltb i (length words / wordsPerLine)) (wordsText (take wordsPerLine (drop (wordsPerLine * i) words))) []
+
+-- "a hex digit", "a blank", "a word" or "the end of the line"
+abbrev pub expectedText : Expected → List ℕ
+expectedText Digit = 97 ∷ 32 ∷ 104 ∷ 101 ∷ 120 ∷ 32 ∷ 100 ∷ 105 ∷ 103 ∷ 105 ∷ 116 ∷ newline ∷ []
+expectedText Blank = 97 ∷ 32 ∷ 98 ∷ 108 ∷ 97 ∷ 110 ∷ 107 ∷ newline ∷ []
+expectedText Word = 97 ∷ 32 ∷ 119 ∷ 111 ∷ 114 ∷ 100 ∷ newline ∷ []
+expectedText LineEnd =
+    116 ∷ 104 ∷ 101 ∷ 32 ∷ 101 ∷ 110 ∷ 100 ∷ 32 ∷ 111 ∷ 102 ∷ 32 ∷ 116 ∷ 104 ∷ 101 ∷ 32 ∷ 108 ∷ 105 ∷ 110 ∷ 101 ∷ newline ∷ []
+
+-- "line ", its number and ","; " column ", its number and ":"; " expected " and what was
+unfoldable pub faultLine : Fault → List ℕ
+faultLine f =
+    (108 ∷ 105 ∷ 110 ∷ 101 ∷ 32 ∷ [])
+    ++ ((decimal (f .line) ++ 44 ∷ [])
+    ++ ((32 ∷ 99 ∷ 111 ∷ 108 ∷ 117 ∷ 109 ∷ 110 ∷ 32 ∷ [])
+    ++ ((decimal (f .column) ++ 58 ∷ [])
+    ++ ((32 ∷ 101 ∷ 120 ∷ 112 ∷ 101 ∷ 99 ∷ 116 ∷ 101 ∷ 100 ∷ 32 ∷ [])
+    ++ expectedText (f .expected)))))
