@@ -4,3 +4,4 @@ pub mod Putting
 pub mod Paged
 pub mod Shown
 mod Worded
+pub mod ReadBack

@@ -1,6 +1,7 @@
 -- A trace as text: a line of hex words a cycle, and what is said of a line that cannot be read. Document 01 has no such text: its form is
 -- ours (docs/DECISIONS.md).
-use Prim.Native.Nat.{ℕ, _*_, _/_}
+use Prim.{Unit}
+use Prim.Native.Nat.{ℕ, zero, suc, _*_, _/_, _<_}
 use mathlib.Core.List.{List, [], _∷_, _++_}
 use lib.Dec.{ltb}
 use lib.ListN.{length, take, drop}
@@ -24,6 +25,19 @@ wordsText (x ∷ words) = (hex 4 x ++ afterWord words ∷ []) ++ wordsText words
 -- the line of cycle i of some cycle words, and no text where there is none
 unfoldable pub wordsLine : List ℕ → ℕ → List ℕ
 wordsLine words i = pick (ltb i (length words / wordsPerLine)) (wordsText (take wordsPerLine (drop (wordsPerLine * i) words))) []
+
+-- the lines of n cycles one after another, from cycle i on; and those of all whole cycles
+abbrev pub textFrom : List ℕ → ℕ → ℕ → List ℕ
+textFrom words i zero = []
+textFrom words i (suc n) = wordsLine words i ++ textFrom words (suc i) n
+
+abbrev pub textOf : List ℕ → List ℕ
+textOf words = textFrom words 0 (length words / wordsPerLine)
+
+-- every word has 16 bits, as those of a slice do
+abbrev pub AllWords : List ℕ → Type 0
+AllWords [] = Unit {0}
+AllWords (x ∷ words) = (x < 65536) × AllWords words
 
 -- "a hex digit", "a blank", "a word" or "the end of the line"
 abbrev pub expectedText : Expected → List ℕ
