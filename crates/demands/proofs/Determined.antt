@@ -3,13 +3,14 @@ use mathlib.Core.Path.{_≡_, ap, _∙_}
 use mathlib.Core.List.{List}
 use Prim.Native.Nat.{ℕ}
 use lib.ListN.{length}
+use Rattle.text.proofs.Laws.{start-unique, take-unique}
 use Rattle.alu.proofs.Unique.{perform-unique, write-back-unique}
 use Rattle.isa.proofs.Laws.{decode-unique, encode-unique, takes-immediate-unique}
 use Rattle.plan.proofs.Laws.{plan-for-unique, names-immediate-unique}
 use Rattle.machine.proofs.Laws.{cycle-unique, may-start-unique}
 use Rattle.run.specs.Runs.{runOf}
 use Rattle.run.proofs.Laws.{run-unique}
-use Rattle.demands.specs.Calls.{Filling, Determined, Performs, WritesBack, Decodes, Encodes, TakesImmediate, Plans, NamesImmediate, Cycles, MayStart, Runs, Checks, ReadsTrace, WritesTrace, Keeps, MakesLine, CycleLines, StateLines, RegisterLines, LastLines, PageLines}
+use Rattle.demands.specs.Calls.{Filling, Determined, Starts, TakesText, Performs, WritesBack, Decodes, Encodes, TakesImmediate, Plans, NamesImmediate, Cycles, MayStart, Runs, Checks, ReadsTrace, WritesTrace, Keeps, MakesLine, CycleLines, StateLines, RegisterLines, LastLines, PageLines, WordsLines, FaultLines}
 use Rattle.trace.proofs.Unique.{check-unique, read-unique, write-unique, kept-unique}
 use Rattle.lines.proofs.Answered.{makes-unique}
 
@@ -22,6 +23,8 @@ makes-line : Determined MakesLine
 makes-line i x y f g = same-filling x y (makes-unique (i .0) (i .1) (x .answer) (y .answer) (x .after) (y .after) f g)
 
 pub record EveryCall : Type 0 where
+  pub start : Determined Starts
+  pub take : Determined TakesText
   pub perform : Determined Performs
   pub write-back : Determined WritesBack
   pub decode : Determined Decodes
@@ -41,9 +44,13 @@ pub record EveryCall : Type 0 where
   pub register-line : Determined RegisterLines
   pub last-line : Determined LastLines
   pub page-line : Determined PageLines
+  pub words-line : Determined WordsLines
+  pub fault-line : Determined FaultLines
 
 pub every-call : EveryCall
 every-call = record {
+  start = λ i x y f g. start-unique x y f g;
+  take = λ i x y f g. same-filling x y (take-unique (i .0) (i .1) (x .answer) (y .answer) (i .2) (x .after) (y .after) f g);
   perform = λ i x y f g. perform-unique (i .0) (i .1) (i .2) x y f g;
   write-back = λ i x y f g. write-back-unique (i .0) (i .1) (i .2) x y f g;
   decode = decode-unique;
@@ -64,4 +71,6 @@ every-call = record {
   register-line = λ i. makes-line (_, i .2);
   last-line = λ i. makes-line (_, i .2);
   page-line = λ i. makes-line (_, i .3);
+  words-line = λ i. makes-line (_, i .2);
+  fault-line = λ i. makes-line (_, i .1);
 }

@@ -7,3 +7,4 @@ pub mod Refusals
 pub mod Wrong
 pub mod Examples
 pub mod Conversions
+pub mod Texts

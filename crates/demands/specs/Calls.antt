@@ -1,9 +1,14 @@
 -- The statements of the public calls, each over what goes in and what comes out: the answer, and lent output after the call.
+use Prim.{Unit}
 use mathlib.Core.Path.{_≡_}
 use mathlib.Core.Bool.{Bool}
 use mathlib.Core.List.{List, []}
 use Prim.Native.Nat.{ℕ}
 use lib.ListN.{length, getD}
+use Rattle.text.specs.declared.Reader.{Reader}
+use Rattle.text.specs.declared.Fault.{Fault}
+use Rattle.text.specs.declared.Taken.{Taken}
+use Rattle.text.specs.Taking.{startOf, Takes}
 use Rattle.alu.specs.declared.Mode.{Mode}
 use Rattle.alu.specs.declared.Operation.{Operation}
 use Rattle.alu.specs.declared.Outcome.{Outcome}
@@ -37,6 +42,7 @@ use Rattle.lines.specs.declared.Line.{Line}
 use Rattle.lines.specs.Lines.{cycleLine, stateLine, registerLine, lastLine}
 use Rattle.lines.specs.Answers.{Makes}
 use Rattle.lines.specs.Pages.{pageOf}
+use Rattle.lines.specs.Words.{wordsLine, faultLine}
 
 -- an answer, and lent output after the call
 pub record Filling (Answer : Type 0) : Type 0 where
@@ -46,6 +52,13 @@ pub record Filling (Answer : Type 0) : Type 0 where
 -- a statement determines what comes out: no two outcomes satisfy it
 abbrev pub Determined : {Input Outcome : Type 0} → (Input → Outcome → Type 0) → Type 0
 Determined {Input = Input} {Outcome = Outcome} Promises = (i : Input) (x y : Outcome) → Promises i x → Promises i y → x ≡ y
+
+-- text: a reader and a text, and the lent words before the call
+abbrev pub Starts : Unit {0} → Reader → Type 0
+Starts i r = r ≡ startOf
+
+abbrev pub TakesText : Reader × List ℕ × List ℕ → Filling Taken → Type 0
+TakesText i o = Takes (i .0) (i .1) (o .answer) (i .2) (o .after)
 
 -- alu
 abbrev pub Performs : Mode × Operation × ℕ → Outcome → Type 0
@@ -126,3 +139,9 @@ LastLines i o = MakesLine (lastLine (i .0) (i .1), i .2) o
 
 abbrev pub PageLines : Ran × List ℕ × ℕ × List ℕ → Filling Line → Type 0
 PageLines i o = MakesLine (getD (pageOf (i .0) (i .1)) (i .2) [], i .3) o
+
+abbrev pub WordsLines : List ℕ × ℕ × List ℕ → Filling Line → Type 0
+WordsLines i o = MakesLine (wordsLine (i .0) (i .1), i .2) o
+
+abbrev pub FaultLines : Fault × List ℕ → Filling Line → Type 0
+FaultLines i o = MakesLine (faultLine (i .0), i .1) o

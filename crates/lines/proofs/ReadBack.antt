@@ -14,7 +14,7 @@ use Rattle.text.specs.declared.Place.the-variants.{Between, After}
 use Rattle.text.specs.declared.Stop.the-variants.{TextEnd}
 use Rattle.text.specs.Bytes.{digitValue}
 use Rattle.text.specs.Lines.{wordsPerLine}
-use Rattle.text.specs.Taking.{startOf, oneMore, stopsAt, takeFrom}
+use Rattle.text.specs.Taking.{startOf, oneMore, Took, stopsAt, takeFrom}
 use Rattle.text.proofs.Reading.{reader, word-read, blank-read, feed-read}
 use Rattle.lines.specs.Text.{newline, blank, digit, hex}
 use Rattle.lines.specs.Words.{wordsText, wordsLine, textFrom, textOf, AllWords}
@@ -112,10 +112,13 @@ lines-read (suc n) i all a j l f words e h =
     ∙ lines-read n (suc i) all a (j + 5 * length line) (oneMore l) f (sets words (wordsPerLine * i) line) (omega arith) room
     ∙ rw (index, both)
 
--- all of it, from the start of a text: every word is found, in its place, and nothing is a fault
+-- what comes of all of it, from the start of a text: every word found, in its place, and no fault
+abbrev pub allRead : List ℕ → List ℕ → Took
+allRead all words =
+    stopsAt (reader (linesAfter (length all / wordsPerLine) 1) 1 0 Between (length all) false) (5 * wordsPerLine * (length all / wordsPerLine)) TextEnd (all ++ drop (length all) words)
+
 pub text-read : (all words : List ℕ) → AllWords all → wordsPerLine * (length all / wordsPerLine) ≡ length all → length all ≤ length words
-    → takeFrom 0 startOf (textOf all) words
-    ≡ stopsAt (reader (linesAfter (length all / wordsPerLine) 1) 1 0 Between (length all) false) (5 * wordsPerLine * (length all / wordsPerLine)) TextEnd (all ++ drop (length all) words)
+    → takeFrom 0 startOf (textOf all) words ≡ allRead all words
 text-read all words a e h =
     let index : 0 + 5 * wordsPerLine * (length all / wordsPerLine) ≡ 5 * wordsPerLine * (length all / wordsPerLine) = omega arith in
     let size : 0 + length all ≡ length all = omega arith in

@@ -66,7 +66,7 @@ three-words = (refl, refl, refl)
 pub four-words : (4 * fullCount 4 ≡ 252) × (fullCount 4 ≡ 63) × (mostBlocks 4 ≡ 66)
 four-words = (refl, refl, refl)
 
-left-by : (answer : Placed ℕ) (n : ℕ) (made before after : List ℕ) → answer ≡ acceptedWhole n → after ≡ leaves answer made before → after ≡ made ++ drop n before
+pub left-by : (answer : Placed ℕ) (n : ℕ) (made before after : List ℕ) → answer ≡ acceptedWhole n → after ≡ leaves answer made before → after ≡ made ++ drop n before
 left-by answer n made before after e f = f ∙ ap (λ (a : Placed ℕ). leaves a made before) e
 
 -- what `write` makes, `read` gives back: all of it

@@ -1,0 +1,64 @@
+-- A trace as text: unpacked and packed again it is the same trace, from the calls' own answers.
+use mathlib.Core.Path.{_≡_, refl, sym, ap, subst, _∙_}
+use mathlib.Core.Bool.{false}
+use mathlib.Core.List.{List, _++_}
+use Prim.Native.Nat.{ℕ, _*_, _/_, _≤_}
+use native.Mathlib.Omega.{arith}
+use lib.ListN.{length, take, drop}
+use lib.Seq.{take-at}
+use Rattle.choice.specs.Tells.{acceptedWhole}
+use Rattle.text.specs.declared.Stop.{Stop}
+use Rattle.text.specs.declared.Taken.{Taken}
+use Rattle.text.specs.Lines.{wordsPerLine}
+use Rattle.text.specs.Taking.{startOf, Took, takeFrom}
+use Rattle.trace.specs.declared.Filled.{Filled}
+use Rattle.trace.specs.Answers.{filledTells}
+use Rattle.trace.specs.Reading.{readOf, readWords}
+use Rattle.trace.proofs.Words.{Bytes}
+use Rattle.trace.proofs.Answered.{read-says}
+use Rattle.trace.proofs.Trips.{left-by, made-read}
+use Rattle.lines.specs.Words.{textOf, AllWords}
+use Rattle.lines.proofs.ReadBack.{allRead, text-read}
+use Rattle.demands.specs.Calls.{Filling, TakesText, ReadsTrace, WritesTrace}
+use Rattle.demands.proofs.Conversions.{trace-there-and-back}
+
+module _ (t lent : List ℕ) (n : ℕ) (o : Filling Filled) (bytes : Bytes t) (reads : ReadsTrace (t, lent) o) (e : o .answer ≡ Filled.Accepted n) where
+  -- the words that were read: as many as the answer says, and whole lines of them
+  abbrev cycles : List ℕ
+  cycles = take n (o .after)
+
+  told : readOf 3 t (length lent) ≡ acceptedWhole n
+  told = sym (reads .told) ∙ ap filledTells e
+
+  size : length cycles ≡ n
+  size =
+      let long = made-read 3 (omega arith) refl t (length lent) n (length t) told bytes (omega arith) .0 in
+      ap (λ (l : List ℕ). length (take n l)) (left-by (readOf 3 t (length lent)) n (readWords 3 t) lent (o .after) told (reads .written))
+      ∙ ap length (take-at (readWords 3 t) (drop n lent) n long) ∙ long
+
+  whole : wordsPerLine * (length cycles / wordsPerLine) ≡ length cycles
+  whole = omega (arith, size, read-says 3 t (length lent) n told .words)
+
+  -- their text, taken: no fault, and every word found in its place
+  module _ (all : AllWords cycles) (words : List ℕ) (p : Filling Taken) (takes : TakesText (startOf, textOf cycles, words) p) (room : n ≤ length words) where
+    read : takeFrom 0 startOf (textOf cycles) words ≡ allRead cycles words
+    read = text-read cycles words all whole (omega (arith, size))
+
+    answered : p .answer ≡ allRead cycles words .taken
+    answered = takes .taken ∙ ap (λ (k : Took). k .taken) read
+
+    found : p .answer .reader .found ≡ length cycles
+    found = ap (λ (k : Taken). k .reader .found) answered
+
+    same-words : take (p .answer .reader .found) (p .after) ≡ cycles
+    same-words =
+        ap (λ (k : ℕ). take k (p .after)) found
+        ∙ ap (take (length cycles)) (takes .written ∙ ap (λ (k : Took). k .words) read)
+        ∙ take-at cycles (drop (length cycles) words) (length cycles) refl
+
+    -- and written: the bytes of the trace
+    pub unpacked-and-packed : (trace : List ℕ) (q : Filling Filled) → WritesTrace (take (p .answer .reader .found) (p .after), trace) q → length t ≤ length trace
+        → (p .answer .stop ≡ Stop.TextEnd) × (p .answer .reader .faulty ≡ false) × (q .answer ≡ Filled.Accepted (length t)) × (q .after ≡ t ++ drop (length t) trace)
+    unpacked-and-packed trace q w h =
+        let again = trace-there-and-back t lent n o bytes reads e trace q (subst (λ (l : List ℕ). WritesTrace (l, trace) q) same-words w) h in
+        (ap (λ (k : Taken). k .stop) answered, ap (λ (k : Taken). k .reader .faulty) answered, again .0, again .1)
