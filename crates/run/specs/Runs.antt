@@ -4,12 +4,13 @@ use Prim.Native.Nat.{ℕ, _*_, _%_}
 use mathlib.Core.Bool.{not}
 use mathlib.Core.List.{List, [], _∷_, _++_}
 use mathlib.Core.Option.{none, some}
-use lib.ListN.{length, drop}
+use lib.ListN.{length, drop, replicate}
 use lib.Dec.{eqb, ltb}
 use Rattle.choice.specs.Pick.{pick}
 use Rattle.choice.specs.Checks.{Check, check, refusal}
 use Rattle.choice.specs.Tells.{Tells, refused, Placed, acceptedWhole, refusedAt}
 use Rattle.machine.specs.declared.Waiting.{Waiting}
+use Rattle.machine.specs.declared.Waiting.the-variants.{Nothing}
 use Rattle.machine.specs.declared.Machine.{Machine}
 use Rattle.machine.specs.Judging.{mayStart}
 use Rattle.run.specs.declared.Ending.{Ending}
@@ -39,6 +40,13 @@ onceStarted k c = pick (eqb k 0) c (closing (refused k))
 
 unfoldable pub runOf : Machine → List ℕ → ℕ → ℕ → Course
 runOf m words budget room = onceStarted (startRefusal m words room) (runFrom m budget (cyclesOf words))
+
+-- where a program starts: all zero, nothing waiting, and a budget for every cycle (document 01, examples)
+abbrev pub zeroMachine : Machine
+zeroMachine = record { registers = record { ram = replicate 32 0; acc = 0; latch = 0; status = 0; waiting = Nothing } }
+
+abbrev pub fullBudget : ℕ
+fullBudget = 4096
 
 -- what a run tells: the machine after its steps, how it ends, and its counts
 pub record Summary : Type 0 where

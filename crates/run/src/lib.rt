@@ -2,6 +2,7 @@
 use machine::Answer;
 use machine::Completed;
 use machine::Machine;
+use machine::Registers;
 use machine::Report;
 use machine::Waiting;
 use machine::Words;
@@ -13,7 +14,7 @@ ghost use Rattle.choice.specs.Checks.{refusal};
 ghost use Rattle.machine.specs.Cycles.{completions};
 ghost use Rattle.run.specs.Splitting.{wordsPerCycle, wordsPerReport, cycleAt, cyclesIn, cyclesOf, reportWords};
 ghost use Rattle.run.specs.Courses.{runFrom};
-ghost use Rattle.run.specs.Runs.{mostCycles, startChecks, runOf, Gives};
+ghost use Rattle.run.specs.Runs.{mostCycles, startChecks, runOf, zeroMachine, fullBudget, Gives};
 
 // The words of a cycle, and of a report.
 const WORDS_PER_CYCLE: usize = 3;
@@ -22,6 +23,9 @@ pub const WORDS_PER_REPORT: usize = 4;
 
 // The most cycles of a run.
 pub const MOST_CYCLES: usize = 4096;
+
+// The budget that lets every cycle run.
+const FULL_BUDGET: u64 = 4096;
 
 // How a run ends. A refusal has its number, and the index of the cycle or 0.
 pub enum Ending {
@@ -145,4 +149,26 @@ pub fn run(machine: Machine, words: &[u16], budget: u64, reports: &mut [u16]) ->
         return ended(machine, Ending::Refused(number, 0), 0, 0);
     }
     run_cycles(machine, words, budget, reports)
+}
+
+fn all_zero() -> Machine
+    ensures { λ r. ⌜ r ≡ zeroMachine ⌝ }
+{
+    let registers = Registers {
+        ram: [0; 32],
+        acc: 0,
+        latch: 0,
+        status: 0,
+        waiting: Waiting::Nothing,
+    };
+    Machine {
+        registers: registers,
+    }
+}
+
+// The run that a program makes of a trace: from all zero, with budget for every cycle.
+pub fn run_from_zero(words: &[u16], reports: &mut [u16]) -> Ran
+    ensures { λ r. ⌜ Gives zeroMachine (runOf zeroMachine (now (words .entry)) fullBudget (length (now (reports .entry)))) r (now (reports .entry)) (now (reports .exit)) ⌝ }
+{
+    run(all_zero(), words, FULL_BUDGET, reports)
 }

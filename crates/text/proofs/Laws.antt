@@ -1,7 +1,8 @@
 -- Each call's outcome is determined by its statement, and a text may come in pieces.
 use mathlib.Core.Path.{_≡_, refl, sym, _∙_}
 use mathlib.Core.List.{List, [], _∷_, _++_}
-use Prim.Native.Nat.{ℕ, suc}
+use Prim.Native.Nat.{ℕ, suc, _+_, _≤_, _<_}
+use native.Mathlib.Omega.{arith}
 use lib.ListN.{length}
 use Rattle.text.specs.declared.Expected.{Expected}
 use Rattle.text.specs.declared.Met.{Met}
@@ -16,6 +17,37 @@ start-unique r q e f = e ∙ sym f
 pub take-unique : (s : Reader) (text : List ℕ) (r q : Taken) (before after left : List ℕ) → Takes s text r before after → Takes s text q before left
     → (r ≡ q) × (after ≡ left)
 take-unique s text r q before after left t u = (t .taken ∙ sym (u .taken), t .written ∙ sym (u .written))
+
+-- a piece that is not empty is taken at least in part, and no more than it
+bytes-by : (x : Met) (i n : ℕ) (a : Took) (w : ℕ → Took) (f : Expected → Took) → (suc i ≤ a .taken .bytes) × (a .taken .bytes ≤ n)
+    → ((y : ℕ) → (suc i ≤ w y .taken .bytes) × (w y .taken .bytes ≤ n)) → ((e : Expected) → (suc i ≤ f e .taken .bytes) × (f e .taken .bytes ≤ n))
+    → (suc i ≤ metBy x a w f .taken .bytes) × (metBy x a w f .taken .bytes ≤ n)
+bytes-by Met.Nothing i n a w f p q r = p
+bytes-by (Met.Word y) i n a w f p q r = q y
+bytes-by (Met.Fault e) i n a w f p q r = r e
+
+some-bytes : (i : ℕ) (s : Reader) (text words : List ℕ) → (i ≤ takeFrom i s text words .taken .bytes) × (takeFrom i s text words .taken .bytes ≤ i + length text)
+    × (0 < length text → suc i ≤ takeFrom i s text words .taken .bytes)
+unfolding takeFrom
+some-bytes i s [] words = (omega arith, omega arith, λ z. absurd (omega arith))
+some-bytes i s (b ∷ text) words =
+    let next = passed s (moveAt s b) b in
+    let on = some-bytes (suc i) next text words in
+    let both =
+    bytes-by (moveAt s b .met) i (i + suc (length text))
+    (takeFrom (suc i) next text words)
+    (λ y. takeFrom (suc i) (withWord next (length words)) text (keptWord (s .found) y words))
+    (λ e. stopsAt (withFault next) (suc i) (Stop.Bad (faultAt s e)) words)
+    (on .0, omega (arith, on .1))
+    (λ y. let kept = some-bytes (suc i) (withWord next (length words)) text (keptWord (s .found) y words) in (kept .0, omega (arith, kept .1)))
+    (λ e. (omega arith, omega arith)) in
+    (omega (arith, both .0), both .1, λ z. both .0)
+
+pub take-some : (s : Reader) (text : List ℕ) (r : Taken) (before after : List ℕ) → Takes s text r before after → 0 < length text
+    → (0 < r .bytes) × (r .bytes ≤ length text)
+take-some s text r before after t z =
+    let some = some-bytes 0 s text before in
+    rw (t .taken) (some .2 z, omega (arith, some .1))
 
 -- what follows a piece of a text: the next piece, unless there was a fault
 abbrev pub goesOn : Took → List ℕ → Took

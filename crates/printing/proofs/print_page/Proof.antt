@@ -19,11 +19,11 @@ slice-aggregate-page-line c = search needs
 page-line-requires : tie.Need-page-line-requires Inv-loop μ-loop
 page-line-requires c κs = search needs
 
-slice-aggregate-print : tie.Need-slice-aggregate-print Inv-loop μ-loop
-slice-aggregate-print c = search needs
+slice-aggregate-print-line : tie.Need-slice-aggregate-print-line Inv-loop μ-loop
+slice-aggregate-print-line c = search needs
 
-print-requires : tie.Need-print-requires Inv-loop μ-loop
-print-requires c κs = search needs
+print-line-requires : tie.Need-print-line-requires Inv-loop μ-loop
+print-line-requires c κs = search needs
 
 returns : tie.Need-returns Inv-loop μ-loop
 returns c = search needs
@@ -49,8 +49,8 @@ print-page-spec =
     loop-holds
     slice-aggregate-page-line
     page-line-requires
-    slice-aggregate-print
-    print-requires
+    slice-aggregate-print-line
+    print-line-requires
     returns
     add-i
     loop-less

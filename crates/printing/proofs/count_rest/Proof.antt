@@ -1,9 +1,9 @@
--- `runtrace::count_rest` meets its contract: what is kept stays short, and the turns get fewer.
+-- `printing::count_rest` meets its contract: what is kept stays short, and the turns get fewer.
 use Prim.Native.Nat.{_≤_, _+_}
 use native.Mathlib.Omega.{arith}
 use borrow.Author.Needs.{needs}
-use Rattle.runtrace.proofs.count_rest.Statement.{statement}
-use Rattle.runtrace.proofs.count_rest.Tie as tie
+use Rattle.printing.proofs.count_rest.Statement.{statement}
+use Rattle.printing.proofs.count_rest.Tie as tie
 use Rattle.trace.proofs.Long.{kept-lt}
 
 abbrev Inv-loop : tie.InvT-loop
