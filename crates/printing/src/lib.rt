@@ -8,7 +8,7 @@ use run::Ran;
 use run::WORDS_PER_REPORT;
 use trace::Filled;
 ghost use Prim.Native.Nat.{_≤_};
-ghost use lib.ListN.{length};
+ghost use Rattle.io.specs.Counts.{Counts};
 
 // The bytes that a trace can have and still be told from a longer one, and one more.
 pub const INPUT: usize = 26112;
@@ -43,10 +43,10 @@ fn count_rest(first: usize) -> usize
     kept
 }
 
-// Reads a trace on standard input, and answers how much of it stands in the array: all of a trace that may be accepted, and of a longer
-// one so much that it is answered alike.
-pub fn read_trace(bytes: &mut [u8; INPUT]) -> usize
-    ensures { λ r. ⌜ r ≤ 26111 ⌝ }
+// Reads a trace on standard input into a slice of INPUT bytes, and answers how much of it stands there: all of a trace that may be
+// accepted, and of a longer one so much that it is answered alike.
+pub fn read_trace(bytes: &mut [u8]) -> usize
+    ensures { λ r. ⌜ Counts r (now (bytes .exit)) ⌝ }
 {
     let got = io::read_full(STDIN_FILENO, bytes);
     if got < INPUT { got } else { count_rest(INPUT) }

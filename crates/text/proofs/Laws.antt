@@ -1,9 +1,9 @@
 -- Each call's outcome is determined by its statement, and a text may come in pieces.
 use mathlib.Core.Path.{_≡_, refl, sym, _∙_}
 use mathlib.Core.List.{List, [], _∷_, _++_}
-use Prim.Native.Nat.{ℕ, suc, _+_, _≤_, _<_}
+use Prim.Native.Nat.{ℕ, suc, _+_, _-_, _≤_, _<_}
 use native.Mathlib.Omega.{arith}
-use lib.ListN.{length}
+use lib.ListN.{length, take, drop, length-take, length-drop}
 use Rattle.text.specs.declared.Expected.{Expected}
 use Rattle.text.specs.declared.Met.{Met}
 use Rattle.text.specs.declared.Reader.{Reader}
@@ -48,6 +48,14 @@ pub take-some : (s : Reader) (text : List ℕ) (r : Taken) (before after : List 
 take-some s text r before after t z =
     let some = some-bytes 0 s text before in
     rw (t .taken) (some .2 z, omega (arith, some .1))
+
+-- the same of what is left of a piece
+pub left-some : (piece : List ℕ) (from : ℕ) (s : Reader) (r : Taken) (before after : List ℕ) → from < length piece
+    → Takes s (take (length piece - from) (drop from piece)) r before after → (0 < r .bytes) × (from + r .bytes ≤ length piece)
+left-some piece from s r before after h t =
+    let size : length (take (length piece - from) (drop from piece)) ≡ length piece - from = simp (length-take, length-drop) (omega arith) in
+    let taken = take-some s (take (length piece - from) (drop from piece)) r before after t (omega (arith, size)) in
+    (taken .0, omega (arith, taken .1, size))
 
 -- what follows a piece of a text: the next piece, unless there was a fault
 abbrev pub goesOn : Took → List ℕ → Took
