@@ -8,9 +8,9 @@ use Rattle.alu.proofs.Unique.{perform-unique, write-back-unique}
 use Rattle.isa.proofs.Laws.{decode-unique, encode-unique, takes-immediate-unique}
 use Rattle.plan.proofs.Laws.{plan-for-unique, names-immediate-unique}
 use Rattle.machine.proofs.Laws.{cycle-unique, may-start-unique}
-use Rattle.run.specs.Runs.{runOf}
+use Rattle.run.specs.Runs.{runOf, zeroMachine, fullBudget}
 use Rattle.run.proofs.Laws.{run-unique}
-use Rattle.demands.specs.Calls.{Filling, Determined, Starts, TakesText, Performs, WritesBack, Decodes, Encodes, TakesImmediate, Plans, NamesImmediate, Cycles, MayStart, Runs, Checks, ReadsTrace, WritesTrace, Keeps, MakesLine, CycleLines, StateLines, RegisterLines, LastLines, PageLines, WordsLines, FaultLines}
+use Rattle.demands.specs.Calls.{Filling, Determined, Starts, TakesText, Performs, WritesBack, Decodes, Encodes, TakesImmediate, Plans, NamesImmediate, Cycles, MayStart, Runs, RunsFromZero, Checks, ReadsTrace, WritesTrace, Keeps, MakesLine, CycleLines, StateLines, RegisterLines, LastLines, PageLines, WordsLines, FaultLines}
 use Rattle.trace.proofs.Unique.{check-unique, read-unique, write-unique, kept-unique}
 use Rattle.lines.proofs.Answered.{makes-unique}
 
@@ -21,6 +21,10 @@ same-filling {A = A} x y e =
 
 makes-line : Determined MakesLine
 makes-line i x y f g = same-filling x y (makes-unique (i .0) (i .1) (x .answer) (y .answer) (x .after) (y .after) f g)
+
+runs : Determined Runs
+runs i x y f g =
+    same-filling x y (run-unique (i .machine) (runOf (i .machine) (i .words) (i .budget) (length (i .reports))) (i .reports) (x .answer) (y .answer) (x .after) (y .after) f g)
 
 pub record EveryCall : Type 0 where
   pub start : Determined Starts
@@ -35,6 +39,7 @@ pub record EveryCall : Type 0 where
   pub cycle : Determined Cycles
   pub may-start : Determined MayStart
   pub run : Determined Runs
+  pub run-from-zero : Determined RunsFromZero
   pub check : Determined Checks
   pub read : Determined ReadsTrace
   pub write : Determined WritesTrace
@@ -60,8 +65,8 @@ every-call = record {
   names-immediate = names-immediate-unique;
   cycle = λ i x y f g. cycle-unique (i .0) (i .1) x y f g;
   may-start = may-start-unique;
-  run = λ i x y f g.
-      same-filling x y (run-unique (i .machine) (runOf (i .machine) (i .words) (i .budget) (length (i .reports))) (i .reports) (x .answer) (y .answer) (x .after) (y .after) f g);
+  run = runs;
+  run-from-zero = λ i. runs (record { machine = zeroMachine; words = i .0; budget = fullBudget; reports = i .1 });
   check = check-unique;
   read = λ i x y f g. same-filling x y (read-unique (i .0) (i .1) (x .answer) (y .answer) (x .after) (y .after) f g);
   write = λ i x y f g. same-filling x y (write-unique (i .0) (i .1) (x .answer) (y .answer) (x .after) (y .after) f g);

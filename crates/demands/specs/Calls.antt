@@ -31,7 +31,7 @@ use Rattle.machine.specs.Judging.{mayStart}
 use Rattle.machine.specs.Cycles.{turnTells, cycleOf}
 use Rattle.run.specs.declared.Ending.{Ending}
 use Rattle.run.specs.declared.Ran.{Ran}
-use Rattle.run.specs.Runs.{runOf, Gives}
+use Rattle.run.specs.Runs.{runOf, zeroMachine, fullBudget, Gives}
 use Rattle.trace.specs.declared.Filled.{Filled}
 use Rattle.trace.specs.Check.{checkOf}
 use Rattle.trace.specs.Layout.{wordsPerRecord}
@@ -100,6 +100,9 @@ pub record RunInput : Type 0 where
 
 abbrev pub Runs : RunInput → Filling Ran → Type 0
 Runs i o = Gives (i .machine) (runOf (i .machine) (i .words) (i .budget) (length (i .reports))) (o .answer) (i .reports) (o .after)
+
+abbrev pub RunsFromZero : List ℕ × List ℕ → Filling Ran → Type 0
+RunsFromZero i o = Runs (record { machine = zeroMachine; words = i .0; budget = fullBudget; reports = i .1 }) o
 
 -- trace: a trace or cycle words, and the lent output before the call
 abbrev pub Checks : List ℕ → ℕ → Type 0
