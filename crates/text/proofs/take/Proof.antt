@@ -45,7 +45,12 @@ loop-less : tie.Need-loop-less Inv-loop μ-loop
 loop-less c = omega arith
 
 loop-again : tie.Need-loop-again Inv-loop μ-loop
-loop-again c = (omega arith, c .before .before .before .before .before .before .before .loop .inv .1, rw add-one (turn-nothing (c .before .before .before .before .before .before .before .before .before .before .args .text .now) (c .before .before .before .before .before .before .before .loop .i) (omega arith) (c .before .before .before .before .before .before .before .loop .state) (c .before .before .before .before .before .before .before .loop .words) (c .before .before .before .move-of .result) (c .before .before .before .move-of .ensures ∙ ap (moveOf (c .before .before .before .before .before .before .before .loop .state .place) (c .before .before .before .before .before .before .before .loop .state .words)) (c .before .before .before .before .kind-of .ensures)) (c .before .before .passed .result) (c .before .before .passed .ensures) (c .enum-told .given .1) ∙ c .before .before .before .before .before .before .before .loop .inv .2))
+loop-again c =
+    let start = c .before .before .before .before .before .before .before .before .before .before in
+    let loop = c .before .before .before .before .before .before .before .loop in
+    let found = c .before .before .before .move-of .ensures ∙ ap (moveOf (loop .state .place) (loop .state .words)) (c .before .before .before .before .kind-of .ensures) in
+    let turn = turn-nothing (start .args .text .now) (loop .i) (omega arith) (loop .state) (loop .words) (c .before .before .before .move-of .result) found (c .before .before .passed .result) (c .before .before .passed .ensures) (c .enum-told .given .1) in
+    (omega arith, loop .inv .1, rw add-one (turn ∙ loop .inv .2))
 
 enum-known-met : tie.Need-enum-known-met Inv-loop μ-loop
 enum-known-met c = search needs
@@ -60,7 +65,13 @@ loop-less-2 : tie.Need-loop-less-2 Inv-loop μ-loop
 loop-less-2 c = omega arith
 
 loop-again-2 : tie.Need-loop-again-2 Inv-loop μ-loop
-loop-again-2 c = (omega arith, ap length (c .before .before .before .keep .ensures) ∙ length-kept (c .before .before .before .before .before .before .before .before .before .before .before .before .before .loop .state .found) (c .before .before .before .before .before .before .met .given .0 .0) (c .before .before .before .before .before .before .before .before .before .before .before .before .before .loop .words) ∙ c .before .before .before .before .before .before .before .before .before .before .before .before .before .loop .inv .1, rw add-one (turn-word (c .before .before .before .before .before .before .before .before .before .before .before .before .before .before .before .before .args .text .now) (c .before .before .before .before .before .before .before .before .before .before .before .before .before .loop .i) (omega arith) (c .before .before .before .before .before .before .before .before .before .before .before .before .before .loop .state) (c .before .before .before .before .before .before .before .before .before .before .before .before .before .loop .words) (c .before .before .before .before .before .before .before .before .before .move-of .result) (c .before .before .before .before .before .before .before .before .before .move-of .ensures ∙ ap (moveOf (c .before .before .before .before .before .before .before .before .before .before .before .before .before .loop .state .place) (c .before .before .before .before .before .before .before .before .before .before .before .before .before .loop .state .words)) (c .before .before .before .before .before .before .before .before .before .before .kind-of .ensures)) (c .before .before .before .before .before .before .before .before .passed .result) (c .before .before .before .before .before .before .before .before .passed .ensures) _ _ _ (c .before .before .before .before .before .before .met .given .1) (c .before .before .before .keep .ensures) (c .with-word .ensures) ∙ c .before .before .before .before .before .before .before .before .before .before .before .before .before .loop .inv .2))
+loop-again-2 c =
+    let start = c .before .before .before .before .before .before .before .before .before .before .before .before .before .before .before .before in
+    let loop = c .before .before .before .before .before .before .before .before .before .before .before .before .before .loop in
+    let found = c .before .before .before .before .before .before .before .before .before .move-of .ensures ∙ ap (moveOf (loop .state .place) (loop .state .words)) (c .before .before .before .before .before .before .before .before .before .before .kind-of .ensures) in
+    let kept = c .before .before .before .keep .ensures in
+    let turn = turn-word (start .args .text .now) (loop .i) (omega arith) (loop .state) (loop .words) (c .before .before .before .before .before .before .before .before .before .move-of .result) found (c .before .before .before .before .before .before .before .before .passed .result) (c .before .before .before .before .before .before .before .before .passed .ensures) _ _ _ (c .before .before .before .before .before .before .met .given .1) kept (c .with-word .ensures) in
+    (omega arith, ap length kept ∙ length-kept (loop .state .found) (c .before .before .before .before .before .before .met .given .0 .0) (loop .words) ∙ loop .inv .1, rw add-one (turn ∙ loop .inv .2))
 
 enum-known-met-2 : tie.Need-enum-known-met-2 Inv-loop μ-loop
 enum-known-met-2 c = search needs
@@ -75,7 +86,13 @@ same-length : tie.Need-same-length Inv-loop μ-loop
 same-length c = c .before .before .before .before .before .before .before .before .before .before .loop .inv .1
 
 returns : tie.Need-returns Inv-loop μ-loop
-returns c = let told = turn-fault (c .before .before .before .before .before .before .before .before .before .before .before .before .before .args .text .now) (c .before .before .before .before .before .before .before .before .before .before .loop .i) (omega arith) (c .before .before .before .before .before .before .before .before .before .before .loop .state) (c .before .before .before .before .before .before .before .before .before .before .loop .words) (c .before .before .before .before .before .before .move-of .result) (c .before .before .before .before .before .before .move-of .ensures ∙ ap (moveOf (c .before .before .before .before .before .before .before .before .before .before .loop .state .place) (c .before .before .before .before .before .before .before .before .before .before .loop .state .words)) (c .before .before .before .before .before .before .before .kind-of .ensures)) (c .before .before .before .before .before .passed .result) (c .before .before .before .before .before .passed .ensures) _ _ _ (c .before .before .before .met2 .given .1) (c .fault-at .ensures) (c .before .with-fault .ensures) ∙ c .before .before .before .before .before .before .before .before .before .before .loop .inv .2 in record { taken = ap (λ (t : Took). t .taken) told; written = ap (λ (t : Took). t .words) told }
+returns c =
+    let start = c .before .before .before .before .before .before .before .before .before .before .before .before .before in
+    let loop = c .before .before .before .before .before .before .before .before .before .before .loop in
+    let found = c .before .before .before .before .before .before .move-of .ensures ∙ ap (moveOf (loop .state .place) (loop .state .words)) (c .before .before .before .before .before .before .before .kind-of .ensures) in
+    let turn = turn-fault (start .args .text .now) (loop .i) (omega arith) (loop .state) (loop .words) (c .before .before .before .before .before .before .move-of .result) found (c .before .before .before .before .before .passed .result) (c .before .before .before .before .before .passed .ensures) _ _ _ (c .before .before .before .met2 .given .1) (c .fault-at .ensures) (c .before .with-fault .ensures) in
+    let told = turn ∙ loop .inv .2 in
+    record { taken = ap (λ (t : Took). t .taken) told; written = ap (λ (t : Took). t .words) told }
 
 same-length-2 : tie.Need-same-length-2 Inv-loop μ-loop
 same-length-2 c = c .before .loop .inv .1
