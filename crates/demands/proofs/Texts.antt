@@ -1,8 +1,9 @@
--- A trace as text: unpacked and packed again it is the same trace, from the calls' own answers.
+-- A trace as text: unpacked and packed again it is the same trace. The text is what `words_line` makes of the words that were read, line by
+-- line; reading, taking and writing are the calls' own answers.
 use mathlib.Core.Path.{_≡_, refl, sym, ap, subst, _∙_}
 use mathlib.Core.Bool.{false}
-use mathlib.Core.List.{List, _++_}
-use Prim.Native.Nat.{ℕ, _*_, _/_, _≤_}
+use mathlib.Core.List.{List, [], _∷_, _++_}
+use Prim.Native.Nat.{ℕ, zero, suc, _-_, _*_, _/_, _≤_}
 use native.Mathlib.Omega.{arith}
 use lib.ListN.{length, take, drop}
 use lib.Seq.{take-at}
@@ -13,14 +14,39 @@ use Rattle.text.specs.Lines.{wordsPerLine}
 use Rattle.text.specs.Taking.{startOf, Took, takeFrom}
 use Rattle.trace.specs.declared.Filled.{Filled}
 use Rattle.trace.specs.Answers.{filledTells}
-use Rattle.trace.specs.Reading.{readOf, readWords}
-use Rattle.trace.proofs.Words.{Bytes}
+use Rattle.trace.specs.Layout.{blockBytes, recordsAt, part, wordsOf}
+use Rattle.trace.specs.Blocks.{countOf, recordsEnd, recordWords}
+use Rattle.trace.specs.Reading.{blocksOf, allRecordWords, readOf, readWords}
+use Rattle.trace.proofs.Words.{Bytes, bytes-take, bytes-drop}
 use Rattle.trace.proofs.Answered.{read-says}
 use Rattle.trace.proofs.Trips.{left-by, made-read}
 use Rattle.lines.specs.Words.{textOf, AllWords}
 use Rattle.lines.proofs.ReadBack.{allRead, text-read}
 use Rattle.demands.specs.Calls.{Filling, TakesText, ReadsTrace, WritesTrace}
 use Rattle.demands.proofs.Conversions.{trace-there-and-back}
+
+-- words of two bytes have 16 bits
+words-small : (l : List ℕ) → Bytes l → AllWords (wordsOf l)
+words-small [] h = tt
+words-small (a ∷ []) h = tt
+words-small (a ∷ b ∷ l) h = (omega (arith, h 0, h 1), words-small l (λ i. h (suc (suc i))))
+
+small-both : (a b : List ℕ) → AllWords a → AllWords b → AllWords (a ++ b)
+small-both [] b p q = q
+small-both (x ∷ a) b p q = (p .0, small-both a b (p .1) q)
+
+record-small : (block : List ℕ) → Bytes block → AllWords (recordWords 3 block)
+unfolding recordWords
+record-small block h =
+    words-small (part recordsAt (recordsEnd 3 (countOf block)) block)
+    (bytes-take (recordsEnd 3 (countOf block) - recordsAt) (drop recordsAt block) (bytes-drop recordsAt block h))
+
+blocks-small : (m : ℕ) (t : List ℕ) → Bytes t → AllWords (allRecordWords 3 (blocksOf m t))
+blocks-small zero t h = tt
+blocks-small (suc m) t h =
+    small-both (recordWords 3 (take blockBytes t)) (allRecordWords 3 (blocksOf m (drop blockBytes t)))
+    (record-small (take blockBytes t) (bytes-take blockBytes t h))
+    (blocks-small m (drop blockBytes t) (bytes-drop blockBytes t h))
 
 module _ (t lent : List ℕ) (n : ℕ) (o : Filling Filled) (bytes : Bytes t) (reads : ReadsTrace (t, lent) o) (e : o .answer ≡ Filled.Accepted n) where
   -- the words that were read: as many as the answer says, and whole lines of them
@@ -30,19 +56,25 @@ module _ (t lent : List ℕ) (n : ℕ) (o : Filling Filled) (bytes : Bytes t) (r
   told : readOf 3 t (length lent) ≡ acceptedWhole n
   told = sym (reads .told) ∙ ap filledTells e
 
+  long : length (readWords 3 t) ≡ n
+  long = made-read 3 (omega arith) refl t (length lent) n (length t) told bytes (omega arith) .0
+
+  same : cycles ≡ readWords 3 t
+  same = ap (take n) (left-by (readOf 3 t (length lent)) n (readWords 3 t) lent (o .after) told (reads .written)) ∙ take-at (readWords 3 t) (drop n lent) n long
+
   size : length cycles ≡ n
-  size =
-      let long = made-read 3 (omega arith) refl t (length lent) n (length t) told bytes (omega arith) .0 in
-      ap (λ (l : List ℕ). length (take n l)) (left-by (readOf 3 t (length lent)) n (readWords 3 t) lent (o .after) told (reads .written))
-      ∙ ap length (take-at (readWords 3 t) (drop n lent) n long) ∙ long
+  size = ap length same ∙ long
+
+  small : AllWords cycles
+  small = subst AllWords (sym same) (blocks-small (length t / blockBytes) t bytes)
 
   whole : wordsPerLine * (length cycles / wordsPerLine) ≡ length cycles
   whole = omega (arith, size, read-says 3 t (length lent) n told .words)
 
   -- their text, taken: no fault, and every word found in its place
-  module _ (all : AllWords cycles) (words : List ℕ) (p : Filling Taken) (takes : TakesText (startOf, textOf cycles, words) p) (room : n ≤ length words) where
+  module _ (words : List ℕ) (p : Filling Taken) (takes : TakesText (startOf, textOf cycles, words) p) (room : n ≤ length words) where
     read : takeFrom 0 startOf (textOf cycles) words ≡ allRead cycles words
-    read = text-read cycles words all whole (omega (arith, size))
+    read = text-read cycles words small whole (omega (arith, size))
 
     answered : p .answer ≡ allRead cycles words .taken
     answered = takes .taken ∙ ap (λ (k : Took). k .taken) read

@@ -53,10 +53,11 @@ pub record Filling (Answer : Type 0) : Type 0 where
 abbrev pub Determined : {Input Outcome : Type 0} → (Input → Outcome → Type 0) → Type 0
 Determined {Input = Input} {Outcome = Outcome} Promises = (i : Input) (x y : Outcome) → Promises i x → Promises i y → x ≡ y
 
--- text: a reader and a text, and the lent words before the call
+-- text
 abbrev pub Starts : Unit {0} → Reader → Type 0
 Starts i r = r ≡ startOf
 
+-- a reader and a text, and the lent words before the call
 abbrev pub TakesText : Reader × List ℕ × List ℕ → Filling Taken → Type 0
 TakesText i o = Takes (i .0) (i .1) (o .answer) (i .2) (o .after)
 

@@ -14,7 +14,7 @@ abbrev pub lineTells : Line → Option ℕ
 lineTells (Made n) = some n
 lineTells NoRoom = none
 
--- an answer and the lent slice, which has room if it is as long as the text: the text and then the slice as it was, or all as it was
+-- an answer and the lent slice, which has room if it is at least as long as the text: the text and then the slice as it was, or all as it was
 pub record Makes (text : List ℕ) (r : Line) (before after : List ℕ) : Type 0 where
   pub told : lineTells r ≡ pick (leb (length text) (length before)) (some (length text)) none
   pub written : after ≡ pick (leb (length text) (length before)) (text ++ drop (length text) before) before

@@ -1,5 +1,5 @@
--- A trace as text: a line of hex words a cycle, and what is said of a line that cannot be read. Document 01 has no such text: its form is
--- ours (docs/DECISIONS.md).
+-- A trace as text: one line of hex words per cycle, and what is said of a line that cannot be read. Document 01 says nothing of traces as
+-- text: the form is ours (docs/DECISIONS.md).
 use Prim.{Unit}
 use Prim.Native.Nat.{ℕ, zero, suc, _*_, _/_, _<_}
 use mathlib.Core.List.{List, [], _∷_, _++_}
@@ -34,12 +34,12 @@ textFrom words i (suc n) = wordsLine words i ++ textFrom words (suc i) n
 abbrev pub textOf : List ℕ → List ℕ
 textOf words = textFrom words 0 (length words / wordsPerLine)
 
--- every word has 16 bits, as those of a slice do
+-- every word has 16 bits, as those of a slice of u16 have
 abbrev pub AllWords : List ℕ → Type 0
 AllWords [] = Unit {0}
 AllWords (x ∷ words) = (x < 65536) × AllWords words
 
--- "a hex digit", "a blank", "a word" or "the end of the line"
+-- "a hex digit", "a blank", "a word" or "the end of the line", and the message's end
 abbrev pub expectedText : Expected → List ℕ
 expectedText Digit = 97 ∷ 32 ∷ 104 ∷ 101 ∷ 120 ∷ 32 ∷ 100 ∷ 105 ∷ 103 ∷ 105 ∷ 116 ∷ newline ∷ []
 expectedText Blank = 97 ∷ 32 ∷ 98 ∷ 108 ∷ 97 ∷ 110 ∷ 107 ∷ newline ∷ []

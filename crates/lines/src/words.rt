@@ -1,4 +1,4 @@
-// A trace as text: a line of hex words a cycle, and what is said of a line that cannot be read.
+// A trace as text: one line of hex words per cycle, and what is said of a line that cannot be read.
 use crate::Line;
 use crate::fields;
 use text::Expected;
@@ -26,7 +26,7 @@ fn after_word(next: usize, count: usize) -> u8
     if next < count { b' ' } else { b'\n' }
 }
 
-// Words with a blank after each, and the line's end after the last.
+// Words with a blank between them, and the line's end.
 fn put_words(words: &[u16], line: &mut [u8]) -> usize
     requires { ⌜ length (now line) ≡ 5 * length (now words) ⌝ }
     ensures { λ r. ⌜ Puts (wordsText (now (words .entry))) 0 r (now (line .entry)) (now (line .exit)) × (r ≡ 5 * length (now (words .entry))) ⌝ }

@@ -1,5 +1,5 @@
 // Reads a trace as hex text on standard input and writes its blocks to standard output. A line that cannot be read is named on standard
-// error, and nothing is then written. Nor is it where there are too many cycles: standard error has the line of the refusal.
+// error, and nothing is then written. Nor is anything written where there are too many cycles: standard error has the line of the refusal.
 use libc::STDERR_FILENO;
 use libc::STDIN_FILENO;
 use libc::STDOUT_FILENO;

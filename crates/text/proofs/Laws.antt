@@ -1,5 +1,5 @@
 -- Each call's outcome is determined by its statement, and a text may come in pieces.
-use mathlib.Core.Path.{_≡_, refl, sym, _∙_}
+use mathlib.Core.Path.{_≡_, refl, sym, ap, _∙_}
 use mathlib.Core.List.{List, [], _∷_, _++_}
 use Prim.Native.Nat.{ℕ, suc, _+_, _-_, _≤_, _<_}
 use native.Mathlib.Omega.{arith}
@@ -18,7 +18,7 @@ pub take-unique : (s : Reader) (text : List ℕ) (r q : Taken) (before after lef
     → (r ≡ q) × (after ≡ left)
 take-unique s text r q before after left t u = (t .taken ∙ sym (u .taken), t .written ∙ sym (u .written))
 
--- a piece that is not empty is taken at least in part, and no more than it
+-- of a piece that is not empty at least one byte is taken, and no more than it has
 bytes-by : (x : Met) (i n : ℕ) (a : Took) (w : ℕ → Took) (f : Expected → Took) → (suc i ≤ a .taken .bytes) × (a .taken .bytes ≤ n)
     → ((y : ℕ) → (suc i ≤ w y .taken .bytes) × (w y .taken .bytes ≤ n)) → ((e : Expected) → (suc i ≤ f e .taken .bytes) × (f e .taken .bytes ≤ n))
     → (suc i ≤ metBy x a w f .taken .bytes) × (metBy x a w f .taken .bytes ≤ n)
@@ -75,3 +75,57 @@ in-pieces i s (b ∷ text) rest words =
     (in-pieces (suc i) (passed s (moveAt s b) b) text rest words)
     (λ y. in-pieces (suc i) (withWord (passed s (moveAt s b) b) (length words)) text rest (keptWord (s .found) y words))
     (λ e. refl)
+
+goes-on : (t : Took) (rest : List ℕ) → t .taken .stop ≡ Stop.TextEnd → goesOn t rest ≡ takeFrom (t .taken .bytes) (t .taken .reader) rest (t .words)
+goes-on t rest e =
+    ap (λ (x : Stop). elim x as (λ (y : Stop). Took) [ Stop.TextEnd ↦ takeFrom (t .taken .bytes) (t .taken .reader) rest (t .words) | Stop.Bad f ↦ t ]) e
+
+-- bytes that were taken before
+abbrev later : ℕ → Took → Took
+later i t = record { taken = record { reader = t .taken .reader; bytes = i + t .taken .bytes; stop = t .taken .stop }; words = t .words }
+
+later-by : (x : Met) (i : ℕ) (n m : Took) (w v : ℕ → Took) (f g : Expected → Took) → n ≡ later i m → ((y : ℕ) → w y ≡ later i (v y))
+    → ((e : Expected) → f e ≡ later i (g e)) → metBy x n w f ≡ later i (metBy x m v g)
+later-by Met.Nothing i n m w v f g p q r = p
+later-by (Met.Word y) i n m w v f g p q r = q y
+later-by (Met.Fault e) i n m w v f g p q r = r e
+
+from-later : (i j k : ℕ) (s : Reader) (text words : List ℕ) → k ≡ i + j → takeFrom k s text words ≡ later i (takeFrom j s text words)
+unfolding takeFrom
+from-later i j k s [] words e = ap (λ (n : ℕ). stopsAt s n Stop.TextEnd words) e
+from-later i j k s (b ∷ text) words e =
+    let next = passed s (moveAt s b) b in
+    let on : suc k ≡ i + suc j = omega arith in
+    later-by (moveAt s b .met) i
+    (takeFrom (suc k) next text words)
+    (takeFrom (suc j) next text words)
+    (λ y. takeFrom (suc k) (withWord next (length words)) text (keptWord (s .found) y words))
+    (λ y. takeFrom (suc j) (withWord next (length words)) text (keptWord (s .found) y words))
+    (λ x. stopsAt (withFault next) (suc k) (Stop.Bad (faultAt s x)) words)
+    (λ x. stopsAt (withFault next) (suc j) (Stop.Bad (faultAt s x)) words)
+    (from-later i (suc j) (suc k) next text words on)
+    (λ y. from-later i (suc j) (suc k) (withWord next (length words)) text (keptWord (s .found) y words) on)
+    (λ x. ap (λ (n : ℕ). stopsAt (withFault next) n (Stop.Bad (faultAt s x)) words) on)
+
+-- two calls, the second where the first came to the end of its piece: they are one call on both pieces
+pub two-calls : (s : Reader) (text rest : List ℕ) (r q : Taken) (before between after : List ℕ) → Takes s text r before between → r .stop ≡ Stop.TextEnd
+    → Takes (r .reader) rest q between after
+    → Takes s (text ++ rest) (record { reader = q .reader; bytes = r .bytes + q .bytes; stop = q .stop }) before after
+two-calls s text rest r q before between after t e u = record {
+  taken = ap (λ (k : Taken). record { reader = k .reader; bytes = r .bytes + k .bytes; stop = k .stop }) (u .taken) ∙ ap (λ (k : Took). k .taken) whole;
+  written = u .written ∙ ap (λ (k : Took). k .words) whole;
+}
+  where
+    first : Took
+    first = takeFrom 0 s text before
+
+    ended : first .taken .stop ≡ Stop.TextEnd
+    ended = sym (ap (λ (k : Taken). k .stop) (t .taken)) ∙ e
+
+    whole : later (r .bytes) (takeFrom 0 (r .reader) rest between) ≡ takeFrom 0 s (text ++ rest) before
+    whole =
+        sym (from-later (r .bytes) 0 (r .bytes) (r .reader) rest between (omega arith))
+        ∙ ap (λ (k : Taken). takeFrom (k .bytes) (k .reader) rest between) (t .taken)
+        ∙ ap (takeFrom (first .taken .bytes) (first .taken .reader) rest) (t .written)
+        ∙ sym (goes-on first rest ended)
+        ∙ sym (in-pieces 0 s text rest before)

@@ -1,4 +1,4 @@
--- What a byte of the text is. Document 01 has no text of traces: its form is ours (docs/DECISIONS.md).
+-- What a byte of a text is. Document 01 says nothing of traces as text: the form is ours (docs/DECISIONS.md).
 use Prim.Native.Nat.{ℕ, _-_}
 use mathlib.Core.Bool.{Bool, true, false}
 use lib.Dec.{eqb, leb, ltb}

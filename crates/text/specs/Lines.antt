@@ -15,7 +15,7 @@ use Rattle.text.specs.declared.Move.{Move}
 abbrev pub wordsPerLine : ℕ
 wordsPerLine = 3
 
--- a word has four digits
+-- a word has four digits: those before its last
 abbrev pub lastDigit : ℕ
 lastDigit = 3
 
@@ -26,11 +26,11 @@ move place words met = record { place = place; words = words; met = met }
 abbrev pub fault : ℕ → Expected → Move
 fault words e = move Rest words (Met.Fault e)
 
--- no word stands after the last one of a line
+-- what is expected while words are missing; with all of them there, the line's end
 abbrev pub orEnd : ℕ → Expected → Expected
 orEnd words e = pick (ltb words wordsPerLine) e Expected.LineEnd
 
--- the words of a line are over: it has none, or all of them
+-- the words of a line are over: a fault, unless it has none or all of them
 abbrev pub over : ℕ → Move
 over words = pick (eqb words 0) (move Rest words Met.Nothing) (pick (ltb words wordsPerLine) (fault words Expected.Word) (move Rest words Met.Nothing))
 
@@ -38,7 +38,8 @@ over words = pick (eqb words 0) (move Rest words Met.Nothing) (pick (ltb words w
 abbrev pub begun : ℕ → ℕ → Move
 begun words v = pick (ltb words wordsPerLine) (move (Within 1 v) words Met.Nothing) (fault words Expected.LineEnd)
 
--- a value with one more digit below it, of which the last four count
+-- a value with one more digit below it. A word begun has less than four digits, and a digit is below 16; the remainders are for readers that
+-- no text leads to
 abbrev pub withDigit : ℕ → ℕ → ℕ
 withDigit value v = value % 4096 * 16 + v % 16
 

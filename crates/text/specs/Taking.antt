@@ -70,7 +70,7 @@ stopsAt s i stop words = record { taken = record { reader = s; bytes = i; stop =
 abbrev pub moveAt : Reader → ℕ → Move
 moveAt s b = moveOf (s .place) (s .words) (kindOf b)
 
--- what follows, by what that brings: nothing, a word, or a fault
+-- what follows, by what the byte brings: nothing, a word, or a fault
 abbrev pub metBy : Met → Took → (ℕ → Took) → (Expected → Took) → Took
 metBy Met.Nothing nothing word fault = nothing
 metBy (Met.Word x) nothing word fault = word x

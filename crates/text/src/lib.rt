@@ -60,13 +60,14 @@ pub struct Reader {
     pub faulty: bool,
 }
 
-// A line that is not read: its number, the column of the byte that does not fit, and what was expected there.
+// A line that cannot be read: its number, the column of the byte that does not fit, and what was expected there.
 pub struct Fault {
     pub line: u64,
     pub column: u64,
     pub expected: Expected,
 }
 
+// Why a reader stopped: the text, or the piece of it, is at its end; or a line is bad.
 pub enum Stop {
     TextEnd,
     Bad(Fault),

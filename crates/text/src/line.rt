@@ -9,7 +9,7 @@ ghost use mathlib.Core.Path.{_≡_};
 ghost use Rattle.text.specs.declared.Place.the-variants.{Between, Within, After};
 ghost use Rattle.text.specs.Lines.{move as specs·move, fault as specs·fault, orEnd, over as specs·over, begun as specs·begun, withDigit, oneWordMore, grown as specs·grown, moveOf};
 
-// A word has four digits.
+// A word has four digits: those before its last.
 const LAST_DIGIT: u8 = 3;
 
 fn move_to(place: Place, words: usize, met: Met) -> Move
