@@ -31,6 +31,39 @@ pub cleared : (k : ℕ) (b : Bool) (xs : List Check) → (k ≡ 0 → ⊥) → r
 cleared k true xs n e = absurd (n e)
 cleared k false xs n e = (refl, e)
 
+-- the first check holds, or does not
+pub held : (k : ℕ) (b : Bool) (xs : List Check) → b ≡ true → refusal (check k b ∷ xs) ≡ k
+held k true xs e = refl
+held k false xs e = absurd (never e)
+
+pub passed : (k : ℕ) (b : Bool) (xs : List Check) → b ≡ false → refusal (check k b ∷ xs) ≡ refusal xs
+passed k true xs e = absurd (never (sym e))
+passed k false xs e = refl
+
+-- of two lists the first that gives a number gives it
+pub ahead : (xs ys : List Check) → (refusal xs ≡ 0 → ⊥) → refusal (xs ++ ys) ≡ refusal xs
+ahead [] ys n = absurd (n refl)
+ahead (x ∷ xs) ys n = by-test (x .holds) n (ahead xs ys)
+  where
+    by-test : (holds : Bool) → (refusal (check (x .number) holds ∷ xs) ≡ 0 → ⊥)
+        → ((refusal xs ≡ 0 → ⊥) → refusal (xs ++ ys) ≡ refusal xs)
+        → refusal (check (x .number) holds ∷ xs ++ ys) ≡ refusal (check (x .number) holds ∷ xs)
+    by-test true n rest = refl
+    by-test false n rest = rest n
+
+pub behind : (xs ys : List Check) → T (without 0 xs) → refusal xs ≡ 0 → refusal (xs ++ ys) ≡ refusal ys
+behind [] ys t e = refl
+behind (x ∷ xs) ys t e = by-test (eqb (x .number) 0) (x .holds) refl t e (behind xs ys)
+  where
+    by-test : (same holds : Bool) → eqb (x .number) 0 ≡ same
+        → T (elim same [ true ↦ false | false ↦ without 0 xs ])
+        → refusal (check (x .number) holds ∷ xs) ≡ 0
+        → (T (without 0 xs) → refusal xs ≡ 0 → refusal (xs ++ ys) ≡ refusal ys)
+        → refusal (check (x .number) holds ∷ xs ++ ys) ≡ refusal ys
+    by-test true holds q t e rest = absurd t
+    by-test false true q t e rest = absurd (never (sym q ∙ eq-eqb (x .number) 0 e))
+    by-test false false q t e rest = rest t e
+
 -- a check of the list, by what stands before it and after it; no check after it has its number
 module _ (k : ℕ) (b : Bool) (after : List Check) (positive : k ≡ 0 → ⊥) (last : T (without k after)) where
   pub given : (before : List Check) → T (clear before) → b ≡ true → refusal (before ++ check k b ∷ after) ≡ k

@@ -18,8 +18,7 @@ use Rattle.isa.specs.declared.Decoded.{Decoded}
 use Rattle.isa.specs.declared.Encoded.{Encoded}
 use Rattle.isa.specs.Words.{namedBy, wordChecks, decodeOf, decodedTells, namedChecks, wordFor, encodeOf, encodedTells}
 use Rattle.isa.proofs.Laws.{decode-unique, encode-unique}
-use Rattle.machine.specs.declared.Judgement.{Judgement}
-use Rattle.machine.specs.declared.Judgement.the-variants.{Refuse}
+use Rattle.machine.specs.Judgements.{Judgement, Refuse}
 use Rattle.machine.specs.declared.Waiting.{Waiting}
 use Rattle.machine.specs.declared.Waiting.the-variants.{Nothing, Held}
 use Rattle.machine.specs.declared.Machine.{Machine}

@@ -26,7 +26,7 @@ use Rattle.machine.specs.declared.Machine.{Machine}
 use Rattle.machine.specs.declared.Words.{Words}
 use Rattle.machine.specs.declared.View.{View}
 use Rattle.machine.specs.declared.Effect.{Effect}
-use Rattle.machine.specs.declared.Judgement.the-variants.{Refuse, Wait}
+use Rattle.machine.specs.Judgements.{Refuse, Wait}
 use Rattle.machine.specs.Pins.{ienHigh, dleHigh}
 use Rattle.machine.specs.Judging.{beginChecks, checksOf, acceptedAs, perform, judgementOf}
 use Rattle.machine.specs.Seeing.{viewOf}

@@ -15,9 +15,10 @@ use Rattle.alu.specs.declared.Outcome.{Outcome}
 use Rattle.alu.specs.Width.{widthOf, writeBack}
 use Rattle.alu.specs.Operations.{outcomeOf}
 use Rattle.isa.specs.declared.Named.{Named}
+use Rattle.isa.specs.declared.Lookup.{Lookup}
 use Rattle.isa.specs.declared.Decoded.{Decoded}
 use Rattle.isa.specs.declared.Encoded.{Encoded}
-use Rattle.isa.specs.Words.{decodedTells, decodeOf, encodedTells, encodeOf, takesImmediate}
+use Rattle.isa.specs.Words.{decodedTells, decodeOf, lookupOf, encodedTells, encodeOf, takesImmediate}
 use Rattle.plan.specs.declared.Plan.{Plan}
 use Rattle.plan.specs.declared.Work.{Work}
 use Rattle.plan.specs.Plans.{planOf}
@@ -26,12 +27,16 @@ use Rattle.machine.specs.declared.Waiting.{Waiting}
 use Rattle.machine.specs.declared.Registers.{Registers}
 use Rattle.machine.specs.declared.Machine.{Machine}
 use Rattle.machine.specs.declared.Words.{Words}
+use Rattle.machine.specs.declared.Core.{Core}
 use Rattle.machine.specs.declared.Turn.{Turn}
+use Rattle.machine.specs.declared.Stepped.{Stepped}
 use Rattle.machine.specs.Judging.{mayStart}
 use Rattle.machine.specs.Cycles.{turnTells, cycleOf}
+use Rattle.machine.specs.Stepping.{coreOf, stateOf, Steps}
 use Rattle.run.specs.declared.Ending.{Ending}
 use Rattle.run.specs.declared.Ran.{Ran}
 use Rattle.run.specs.Runs.{runOf, zeroMachine, fullBudget, Gives}
+use Rattle.bench_run.specs.Counting.{Counts}
 use Rattle.trace.specs.declared.Filled.{Filled}
 use Rattle.trace.specs.Check.{checkOf}
 use Rattle.trace.specs.Layout.{wordsPerRecord}
@@ -72,6 +77,9 @@ WritesBack i r = r ≡ writeBack (widthOf (i .0)) (i .1) (i .2)
 abbrev pub Decodes : ℕ → Decoded → Type 0
 Decodes w r = decodedTells r ≡ decodeOf w
 
+abbrev pub LooksUp : ℕ → Lookup → Type 0
+LooksUp w r = r ≡ lookupOf w
+
 abbrev pub Encodes : Named → Encoded → Type 0
 Encodes n r = encodedTells r ≡ encodeOf n
 
@@ -89,6 +97,16 @@ NamesImmediate w r = r ≡ namesI w
 abbrev pub Cycles : Machine × Words → Turn → Type 0
 Cycles i r = turnTells r ≡ cycleOf (i .0) (i .1)
 
+-- RAM before the step, the other registers and the words; RAM after it is the lent output
+abbrev pub StepsMachine : List ℕ × Core × Words → Filling Stepped → Type 0
+StepsMachine i o = Steps (i .0) (i .1) (i .2) (o .answer) (o .after)
+
+abbrev pub TakesApart : Registers → Core → Type 0
+TakesApart r k = k ≡ coreOf r
+
+abbrev pub PutsTogether : List ℕ × Core → Machine → Type 0
+PutsTogether i m = m ≡ stateOf (i .0) (i .1)
+
 abbrev pub MayStart : Waiting → Bool → Type 0
 MayStart w r = r ≡ mayStart w
 
@@ -104,6 +122,10 @@ Runs i o = Gives (i .machine) (runOf (i .machine) (i .words) (i .budget) (length
 
 abbrev pub RunsFromZero : List ℕ × List ℕ → Filling Ran → Type 0
 RunsFromZero i o = Runs (record { machine = zeroMachine; words = i .0; budget = fullBudget; reports = i .1 }) o
+
+-- the run as a C function, alone and beside the check
+abbrev pub RunsCounted : List ℕ × List ℕ → Filling ℕ → Type 0
+RunsCounted i o = Counts (runOf zeroMachine (i .0) fullBudget (length (i .1))) (o .answer) (i .1) (o .after)
 
 -- trace: a trace or cycle words, and the lent output before the call
 abbrev pub Checks : List ℕ → ℕ → Type 0

@@ -18,16 +18,17 @@ use Rattle.choice.proofs.Checks.{positive, exactly, cleared}
 use Rattle.choice.proofs.Tells.{accepted-one, refused-one, accepted-refused, told-accepted, told-number}
 use Rattle.isa.specs.declared.Family.{Family}
 use Rattle.isa.specs.declared.Named.{Named}
+use Rattle.isa.specs.declared.Lookup.{Lookup}
 use Rattle.isa.specs.declared.Decoded.{Decoded}
 use Rattle.isa.specs.declared.Encoded.{Encoded}
 use Rattle.isa.specs.Fields.{markOf, quadrantOf, fieldA, fieldB, fieldC, wordOf, modeOf, markFor}
 use Rattle.isa.specs.Table.{rowAt, noRow, numberOf}
 use Rattle.isa.specs.Slots.{takes, rowOf}
-use Rattle.isa.specs.Words.{accTwice, bitTooHigh, ruleChecks, wordNumber, wordRow, unlistedWord, wordChecks, namedBy, decodeOf, decodedTells, namedRow, unlistedNamed, namedChecks, wordFor, encodeOf, encodedTells, takesImmediate}
-use Rattle.isa.specs.Decision.{judgeOf, fillOf}
+use Rattle.isa.specs.Words.{accTwice, bitTooHigh, ruleChecks, wordNumber, wordRow, unlistedWord, wordChecks, namedBy, decodeOf, lookupOf, decodedTells, namedRow, unlistedNamed, namedChecks, wordFor, encodeOf, encodedTells, takesImmediate}
+use Rattle.isa.specs.Decision.{fillOf}
 use Rattle.isa.proofs.Families.{own-row, own-number, narrow, mark-small}
 use Rattle.isa.proofs.Takes.{small}
-use Rattle.isa.proofs.Answers.{fill-accepted, judge-accepted, decoded}
+use Rattle.isa.proofs.Answers.{answerAt, answer-accepted, decoded, fill-accepted}
 use Rattle.isa.proofs.Found.{Belongs, row-belongs, belongs-row}
 
 -- A family takes a word: the word's quadrant is the family's, and its row has the word's mode and fields.
@@ -141,9 +142,10 @@ module _ (n : Named) (w : ℕ) (e : encodeOf n ≡ accepted w) where
       let i = numberOf (n .family) in
       ap decodeOf (sym (named-told .1))
       ∙ sym (decoded v i number-found)
-      ∙ sym (five (λ m q a b c. judgeOf i m a b c) mark (namedRow n .quadrant) (n .a) (n .b) (n .c) (markOf v) (quadrantOf v) (fieldA v) (fieldB v) (fieldC v)
+      ∙ sym (five (λ m q a b c. answerAt i m a b c) mark (namedRow n .quadrant) (n .a) (n .b) (n .c) (markOf v) (quadrantOf v) (fieldA v) (fieldB v) (fieldC v)
       (apart mark (namedRow n .quadrant) (n .a) (n .b) (n .c) in-range))
-      ∙ sym (judge-accepted i mark (n .a) (n .b) (n .c) 0 (namedRow n) (named-own .listed) refl (sym (named-free .1)) (n .mode) (sym (mode-back (n .mode))) refl)
+      ∙ answer-accepted i mark (n .a) (n .b) (n .c) (named-own .listed) (named-free .1)
+      ∙ ap (λ (d : Mode). accepted (record { family = namedRow n .family; mode = d; a = n .a; b = n .b; c = n .c })) (mode-back (n .mode))
       ∙ ap (λ (f : Family). accepted (record { family = f; mode = n .mode; a = n .a; b = n .b; c = n .c })) (own-row (n .family) .1)
 
 -- an answer is a value, or a refusal with 7, 8 or 9
@@ -253,6 +255,9 @@ encoded-one (Encoded.Refused j) (Encoded.Refused k) e = ap Encoded.Refused (refu
 -- no two outcomes satisfy the statement of a call
 pub decode-unique : (w : ℕ) (r s : Decoded) → decodedTells r ≡ decodeOf w → decodedTells s ≡ decodeOf w → r ≡ s
 decode-unique w r s p q = decoded-one r s (p ∙ sym q)
+
+pub look-up-unique : (w : ℕ) (r s : Lookup) → r ≡ lookupOf w → s ≡ lookupOf w → r ≡ s
+look-up-unique w r s p q = p ∙ sym q
 
 pub encode-unique : (n : Named) (r s : Encoded) → encodedTells r ≡ encodeOf n → encodedTells s ≡ encodeOf n → r ≡ s
 encode-unique n r s p q = encoded-one r s (p ∙ sym q)

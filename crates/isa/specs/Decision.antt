@@ -1,18 +1,20 @@
 -- What the parts of decoder and encoder answer, for their contracts: document 01's rules stand in Table, Slots and Words. The decision over quadrant, A and B answers a slot by the number of its first row.
 use Prim.Native.Nat.{ℕ, _<_}
 use mathlib.Core.List.{List, [], _∷_}
+use mathlib.Core.Path.{_≡_}
 use mathlib.Core.Bool.{not}
-use lib.Dec.{eqb, leb, ltb}
+use lib.Dec.{eqb, ltb}
 use Rattle.choice.specs.Pick.{pick}
 use Rattle.choice.specs.Checks.{check, refusal}
 use Rattle.choice.specs.Tells.{Tells, tells}
-use Rattle.isa.specs.declared.Family.the-variants.{Bonr, Rotnr}
+use Rattle.isa.specs.declared.Family.{Family}
+use Rattle.isa.specs.declared.Family.the-variants.{Tor1, Bonr, Rotnr}
 use Rattle.isa.specs.declared.Row.{Row}
 use Rattle.isa.specs.declared.Named.{Named}
-use Rattle.isa.specs.Fields.{modeOf, wordOf}
-use Rattle.isa.specs.Table.{noRow, numberOf, rowAt}
+use Rattle.isa.specs.Fields.{markOf, fieldA, fieldB, fieldC, modeOf, wordOf}
+use Rattle.isa.specs.Table.{row, noRow, numberOf}
 use Rattle.isa.specs.Slots.{slotRows, takes}
-use Rattle.isa.specs.Words.{ruleChecks}
+use Rattle.isa.specs.Words.{ruleChecks, wordNumber}
 
 abbrev pub firstOf : List ℕ → ℕ
 firstOf [] = noRow
@@ -30,11 +32,17 @@ sharing s =
     (pick (eqb s (numberOf Rotnr)) (numberOf Bonr ∷ numberOf Rotnr ∷ []) (s ∷ [])))
     []
 
--- the answer for a word's fields, once its row's number is known
-unfoldable pub judgeOf : ℕ → ℕ → ℕ → ℕ → ℕ → Tells Named
-judgeOf i mark a b c =
-    tells (refusal (check 7 (leb noRow i) ∷ ruleChecks (rowAt i) mark a b))
-    (record { family = rowAt i .family; mode = modeOf mark; a = a; b = b; c = c })
+-- i is the number of a word's row, or noRow
+unfoldable pub RowIs : ℕ → ℕ → Type 0
+RowIs w i = i ≡ wordNumber w
+
+-- the instruction of a family that has a word's fields
+abbrev pub namedAs : Family → ℕ → Named
+namedAs f w = record { family = f; mode = modeOf (markOf w); a = fieldA w; b = fieldB w; c = fieldC w }
+
+-- a row of which only the rule counts, for what a rule refuses
+abbrev pub ruleOnly : ℕ → Row
+ruleOnly k = row Tor1 0 0 0 0 0 k 0
 
 -- a row's quadrant, and its sets of values of A, B and C, fit into what the code has for them
 pub record Narrow (r : Row) : Type 0 where

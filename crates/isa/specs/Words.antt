@@ -9,6 +9,7 @@ use Rattle.choice.specs.Checks.{Check, check, refusal}
 use Rattle.choice.specs.Tells.{Tells, accepted, refused, tells}
 use Rattle.isa.specs.declared.Row.{Row}
 use Rattle.isa.specs.declared.Named.{Named}
+use Rattle.isa.specs.declared.Lookup.{Lookup}
 use Rattle.isa.specs.declared.Decoded.{Decoded}
 use Rattle.isa.specs.declared.Encoded.{Encoded}
 use Rattle.isa.specs.Fields.{markOf, quadrantOf, fieldA, fieldB, fieldC, wordOf, modeOf, markFor}
@@ -49,6 +50,10 @@ namedBy w = record { family = wordRow w .family; mode = modeOf (markOf w); a = f
 -- what decoding a word tells
 unfoldable pub decodeOf : ℕ → Tells Named
 decodeOf w = tells (refusal (wordChecks w)) (namedBy w)
+
+-- the same as one flat answer: the number of the refusal, or 0, and the instruction that the word's row and fields name
+unfoldable pub lookupOf : ℕ → Lookup
+lookupOf w = record { refusal = refusal (wordChecks w); named = namedBy w }
 
 -- what the decoder's answer tells
 abbrev pub decodedTells : Decoded → Tells Named

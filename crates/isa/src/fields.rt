@@ -7,6 +7,7 @@ ghost use Rattle.isa.specs.Sets.{has};
 ghost use Rattle.isa.specs.Fields.{modeOf, markFor};
 ghost use Rattle.isa.specs.Slots.{agrees, takes};
 ghost use Rattle.isa.specs.Words.{ruleChecks, asksI};
+ghost use Rattle.isa.specs.Decision.{ruleOnly};
 
 pub(crate) fn mode_of(mark: u8) -> Mode
     ensures { λ r. ⌜ r ≡ modeOf mark ⌝ }
@@ -56,17 +57,17 @@ pub(crate) fn taking(row: Row, mark: u8, a: u8, b: u8, c: u8) -> bool
     }
 }
 
-// What the row's rule refuses: 8, 9, or 0 for nothing.
-pub(crate) fn rule_refusal(row: Row, mark: u8, a: u8, b: u8) -> u8
-    ensures { λ r. ⌜ r ≡ refusal (ruleChecks row mark a b) ⌝ }
+// What a rule refuses: 8, 9, or 0 for nothing.
+pub(crate) fn rule_refusal(rule: u8, mark: u8, a: u8, b: u8) -> u8
+    ensures { λ r. ⌜ r ≡ refusal (ruleChecks (ruleOnly rule) mark a b) ⌝ }
 {
-    if row.rule == 8 {
+    if rule == 8 {
         if a == 8 {
             if b == 4 { 8 } else { 0 }
         } else {
             0
         }
-    } else if row.rule == 9 {
+    } else if rule == 9 {
         if mark == 0 {
             if 7 < a { 9 } else { 0 }
         } else {

@@ -8,8 +8,11 @@ mod fields; // fields.rt: what a row says of mode and fields
 
 ghost use mathlib.Core.Path.{_≡_};
 ghost use Prim.Native.Nat.{_<_};
-ghost use Rattle.isa.specs.Words.{decodeOf, decodedTells, encodeOf, encodedTells, takesImmediate, asksI, namedRow};
-ghost use Rattle.isa.specs.Decision.{judgeOf, Narrow, fillOf};
+ghost use Rattle.choice.specs.Checks.{refusal};
+ghost use Rattle.isa.specs.Fields.{markOf, fieldA, fieldB};
+ghost use Rattle.isa.specs.Table.{rowAt, noRow};
+ghost use Rattle.isa.specs.Words.{ruleChecks, decodeOf, lookupOf, decodedTells, encodeOf, encodedTells, takesImmediate, asksI, namedRow};
+ghost use Rattle.isa.specs.Decision.{RowIs, namedAs, Narrow, fillOf};
 
 // The families of the data sheet's summary of mnemonics, in the order of document 01's list.
 pub enum Family {
@@ -65,6 +68,13 @@ pub struct Named {
     pub c: u8,
 }
 
+// What a word says: the number of its refusal, or 0, and the instruction that its row and fields name. An unlisted word has no row, and the
+// blank row's family. Plain fields, because those stay in the processor's registers where an enum goes through memory.
+pub struct Lookup {
+    pub refusal: u8,
+    pub named: Named,
+}
+
 // A word's instruction, or the number of its refusal.
 pub enum Decoded {
     Accepted(Named),
@@ -77,27 +87,57 @@ pub enum Encoded {
     Refused(u8),
 }
 
-// The answer for a word's fields, by the number of their row.
-fn judge(number: u8, mark: u8, a: u8, b: u8, c: u8) -> Decoded
-    ensures { λ r. ⌜ decodedTells r ≡ judgeOf number mark a b c ⌝ }
+// The number of the row that a word belongs to, or `number::NONE`.
+fn row_number(word: u16) -> u8
+    ensures { λ r. ⌜ RowIs word r ⌝ }
 {
-    if number::NONE <= number {
-        return Decoded::Refused(7);
+    let mark = (word / 0x8000) as u8;
+    let quadrant = (word / 0x2000 % 4) as u8;
+    let a = (word / 0x200 % 16) as u8;
+    let b = (word / 0x20 % 16) as u8;
+    let c = (word % 32) as u8;
+    slots::row_of(mark, quadrant, a, b, c)
+}
+
+// The instruction of a family that has a word's fields.
+fn named_as(family: Family, word: u16) -> Named
+    ensures { λ r. ⌜ r ≡ namedAs family word ⌝ }
+{
+    let mode = fields::mode_of((word / 0x8000) as u8);
+    Named {
+        family: family,
+        mode: mode,
+        a: (word / 0x200 % 16) as u8,
+        b: (word / 0x20 % 16) as u8,
+        c: (word % 32) as u8,
     }
-    let row = table::row_at(number as usize);
-    let refusal = fields::rule_refusal(row, mark, a, b);
-    if refusal == 0 {
-        let family = row.family;
-        let mode = fields::mode_of(mark);
-        Decoded::Accepted(Named {
-            family: family,
-            mode: mode,
-            a: a,
-            b: b,
-            c: c,
-        })
-    } else {
-        Decoded::Refused(refusal)
+}
+
+// What a word's row refuses it with, by the row's number: 8, 9, or 0 for nothing.
+fn row_refusal(number: u8, word: u16) -> u8
+    ensures { λ r. ⌜ (number < noRow → r ≡ refusal (ruleChecks (rowAt number) (markOf word) (fieldA word) (fieldB word))) ⌝ }
+{
+    let mark = (word / 0x8000) as u8;
+    let a = (word / 0x200 % 16) as u8;
+    let b = (word / 0x20 % 16) as u8;
+    fields::rule_refusal(table::rule_at(number), mark, a, b)
+}
+
+// The refusal of a word, or 0, and its instruction, by number and not by the table: a run looks up a word in every cycle.
+pub fn look_up(word: u16) -> Lookup
+    ensures { λ r. ⌜ r ≡ lookupOf word ⌝ }
+{
+    let number = row_number(word);
+    if number::NONE <= number {
+        return Lookup {
+            refusal: 7,
+            named: named_as(Family::Tor1, word),
+        };
+    }
+    let family = table::family_at(number);
+    Lookup {
+        refusal: row_refusal(number, word),
+        named: named_as(family, word),
     }
 }
 
@@ -105,13 +145,13 @@ fn judge(number: u8, mark: u8, a: u8, b: u8, c: u8) -> Decoded
 pub fn decode(word: u16) -> Decoded
     ensures { λ r. ⌜ decodedTells r ≡ decodeOf word ⌝ }
 {
-    let mark = (word / 0x8000) as u8;
-    let quadrant = (word / 0x2000 % 4) as u8;
-    let a = (word / 0x200 % 16) as u8;
-    let b = (word / 0x20 % 16) as u8;
-    let c = (word % 32) as u8;
-    let number = slots::row_of(mark, quadrant, a, b, c);
-    judge(number, mark, a, b, c)
+    let found = look_up(word);
+    let named = found.named;
+    if found.refusal == 0 {
+        Decoded::Accepted(named)
+    } else {
+        Decoded::Refused(found.refusal)
+    }
 }
 
 // The answer for the fields of a named instruction, by their row.
@@ -120,7 +160,7 @@ fn fill(row: Row, mark: u8, a: u8, b: u8, c: u8) -> Encoded
     ensures { λ r. ⌜ encodedTells r ≡ fillOf row mark a b c ⌝ }
 {
     if fields::taking(row, mark, a, b, c) {
-        let refusal = fields::rule_refusal(row, mark, a, b);
+        let refusal = fields::rule_refusal(row.rule, mark, a, b);
         if refusal == 0 {
             let high = (mark as u32) * 0x8000 + (row.quadrant as u32) * 0x2000;
             let low = (a as u32) * 0x200 + (b as u32) * 0x20 + (c as u32);

@@ -4,6 +4,8 @@ use crate::Row;
 use crate::number;
 ghost use mathlib.Core.Path.{_≡_};
 ghost use Prim.Native.Nat.{_<_};
+ghost use lib.Dec.{eqb};
+ghost use Rattle.choice.specs.Along.{Along};
 ghost use Rattle.isa.specs.Table.{rowAt, numberOf};
 
 // Sets of modes, of places n and of RAM addresses.
@@ -331,6 +333,53 @@ pub(crate) fn row_at(number: usize) -> Row
     ensures { λ r. ⌜ r ≡ rowAt number ⌝ }
 {
     ROWS[number]
+}
+
+// The family of a number, and below its rule: what decoding needs of a row, without the table.
+pub(crate) fn family_at(number: u8) -> Family
+    ensures { λ r. ⌜ Along eqb 27 (λ k. k) number (numberOf r) ⌝ }
+{
+    match number {
+        number::TOR1 => Family::Tor1,
+        number::ROTR1 => Family::Rotr1,
+        number::ROTR2 => Family::Rotr2,
+        number::ROTC => Family::Rotc,
+        number::ROTM => Family::Rotm,
+        number::SOR => Family::Sor,
+        number::BOR2 => Family::Bor2,
+        number::TOR2 => Family::Tor2,
+        number::SHFTR => Family::Shftr,
+        number::CRCF => Family::Crcf,
+        number::CRCR => Family::Crcr,
+        number::PRT1 => Family::Prt1,
+        number::PRT2 => Family::Prt2,
+        number::PRT3 => Family::Prt3,
+        number::SVSTR => Family::Svstr,
+        number::SONR => Family::Sonr,
+        number::TONR => Family::Tonr,
+        number::SHFTNR => Family::Shftnr,
+        number::BOR1 => Family::Bor1,
+        number::BONR => Family::Bonr,
+        number::ROTNR => Family::Rotnr,
+        number::PRTNR => Family::Prtnr,
+        number::SVSTNR => Family::Svstnr,
+        number::SETST => Family::Setst,
+        number::RSTST => Family::Rstst,
+        number::TEST => Family::Test,
+        _ => Family::Noop,
+    }
+}
+
+pub(crate) fn rule_at(number: u8) -> u8
+    ensures { λ r. ⌜ Along eqb 27 (λ k. rowAt k .rule) number r ⌝ }
+{
+    match number {
+        number::BOR2 => BIT_IN_MODE,
+        number::PRT3 => ONE_ACC,
+        number::PRTNR => ONE_ACC,
+        number::BOR1..=number::BONR => BIT_IN_MODE,
+        _ => NO_RULE,
+    }
 }
 
 // The number of a family's row.

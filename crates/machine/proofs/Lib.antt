@@ -1,5 +1,7 @@
-pub mod Judged
+pub mod Decided
 pub mod Laws
+pub mod Seen
+pub mod Steps
 pub mod Kept
 pub mod Exactly
 pub mod Spelt

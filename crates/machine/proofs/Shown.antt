@@ -29,8 +29,7 @@ use Rattle.machine.specs.declared.Machine.{Machine}
 use Rattle.machine.specs.declared.Words.{Words}
 use Rattle.machine.specs.declared.View.{View}
 use Rattle.machine.specs.declared.Report.{Report}
-use Rattle.machine.specs.declared.Judgement.{Judgement}
-use Rattle.machine.specs.declared.Judgement.the-variants.{Refuse, Wait}
+use Rattle.machine.specs.Judgements.{Judgement, Refuse, Wait}
 use Rattle.machine.specs.Pins.{oeYHigh}
 use Rattle.machine.specs.Judging.{checksOf, acceptedAs, judged, perform, judgementOf}
 use Rattle.machine.specs.Seeing.{viewOf}

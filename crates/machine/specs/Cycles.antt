@@ -14,8 +14,7 @@ use Rattle.machine.specs.declared.Completed.the-variants.{NoInstruction,
 use Rattle.machine.specs.declared.Report.{Report}
 use Rattle.machine.specs.declared.Answer.{Answer}
 use Rattle.machine.specs.declared.Turn.{Turn}
-use Rattle.machine.specs.declared.Judgement.{Judgement}
-use Rattle.machine.specs.declared.Judgement.the-variants.{Refuse, Wait, Perform}
+use Rattle.machine.specs.Judgements.{Judgement, Refuse, Wait, Perform}
 use Rattle.machine.specs.declared.Effect.{Effect}
 use Rattle.machine.specs.Pins.{oeYHigh}
 use Rattle.machine.specs.Judging.{judgementOf}

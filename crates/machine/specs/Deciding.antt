@@ -1,29 +1,57 @@
--- The judgement as the code goes about it, once a word is decoded: an instruction begun with good pins, a word begun with good pins,
--- and a cycle with a decoded word waiting. What a cycle is judged to be is said in Judging; these only serve the judge's parts.
+-- The judgement as the code goes about it: flat, and by numbers and tests. What a cycle is judged to be is said in Judging; these only serve
+-- the judge and its parts.
 use Prim.Native.Nat.{ℕ}
-use mathlib.Core.List.{[]}
+use mathlib.Core.Bool.{Bool, false, not}
+use mathlib.Core.List.{[], _∷_}
+use lib.Dec.{eqb}
 use Rattle.choice.specs.Pick.{pick}
-use Rattle.choice.specs.Checks.{refusal}
-use Rattle.isa.specs.declared.Named.{Named}
-use Rattle.isa.specs.declared.Decoded.{Decoded}
+use Rattle.choice.specs.Checks.{check, refusal}
+use Rattle.isa.specs.Words.{namedBy, takesImmediate}
 use Rattle.plan.specs.Plans.{planOf}
-use Rattle.plan.specs.Reading.{namesI}
+use Rattle.machine.specs.declared.Waiting.{Waiting}
+use Rattle.machine.specs.declared.Waiting.the-variants.{Nothing, Held}
 use Rattle.machine.specs.declared.Words.{Words}
-use Rattle.machine.specs.declared.Judgement.{Judgement}
-use Rattle.machine.specs.declared.Judgement.the-variants.{Refuse, Wait}
+use Rattle.machine.specs.declared.Judged.{Judged}
 use Rattle.machine.specs.Pins.{ienHigh}
-use Rattle.machine.specs.Judging.{pinChecks, perform, judged}
+use Rattle.machine.specs.Judgements.{Judgement, Wait, Perform}
+use Rattle.machine.specs.Judging.{pinChecks, checksOf, judged}
 
-abbrev pub begunNamed : Named → ℕ → Judgement
-begunNamed n pins = pick (namesI (planOf n .work)) (pick (ienHigh pins) (Refuse 10) Wait) (perform n 0)
+-- the word that a cycle is about: the one that waits, or its lines
+abbrev pub wordAbout : Waiting → ℕ → ℕ
+wordAbout Nothing lines = lines
+wordAbout (Held w) lines = w
 
-abbrev pub begun : Decoded → ℕ → Judgement
-begun (Decoded.Accepted n) pins = begunNamed n pins
-begun (Decoded.Refused k) pins = Refuse k
+-- the I operand, 0 where there is none
+abbrev pub immediateIn : Waiting → ℕ → ℕ
+immediateIn Nothing lines = 0
+immediateIn (Held w) lines = lines
 
-abbrev pub withPins : ℕ → Judgement → Judgement
-withPins pins j = judged (refusal (pinChecks pins [])) j
+-- a cycle is the first of two
+abbrev pub onlyBegins : Waiting → Bool → Bool
+onlyBegins Nothing asks = asks
+onlyBegins (Held w) asks = false
 
-abbrev pub continued : Decoded → Words → Judgement
-continued (Decoded.Accepted n) c = pick (namesI (planOf n .work)) (withPins (c .pins) (perform n (c .lines))) (Refuse 4)
-continued (Decoded.Refused k) c = Refuse 4
+-- the number of the first check that holds, by the word's refusal and whether it asks for an I operand
+abbrev pub beginBy : ℕ → Bool → ℕ → ℕ
+beginBy wrong asks pins =
+    refusal (pinChecks pins (check wrong (not (eqb wrong 0)) ∷ check 10 (pick asks (ienHigh pins) false) ∷ []))
+
+abbrev pub secondBy : Bool → ℕ → ℕ
+secondBy asks pins = refusal (check 4 (not asks) ∷ pinChecks pins [])
+
+abbrev pub cycleBy : Waiting → ℕ → Bool → ℕ → ℕ
+cycleBy Nothing wrong asks pins = beginBy wrong asks pins
+cycleBy (Held w) wrong asks pins = secondBy asks pins
+
+-- a judgement in plain fields, and the judgement that they are
+unfoldable pub judgedOf : Waiting → Words → Judged
+judgedOf x c = record {
+  refusal = refusal (checksOf x c);
+  begins = onlyBegins x (takesImmediate (wordAbout x (c .lines)));
+  named = namedBy (wordAbout x (c .lines));
+  plan = planOf (namedBy (wordAbout x (c .lines)));
+  immediate = immediateIn x (c .lines);
+}
+
+abbrev pub judgementIn : Judged → Judgement
+judgementIn j = judged (j .refusal) (pick (j .begins) Wait (Perform (j .named) (j .plan) (j .immediate)))

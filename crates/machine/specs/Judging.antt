@@ -12,8 +12,7 @@ use Rattle.plan.specs.Plans.{planOf}
 use Rattle.machine.specs.declared.Waiting.{Waiting}
 use Rattle.machine.specs.declared.Waiting.the-variants.{Nothing, Held}
 use Rattle.machine.specs.declared.Words.{Words}
-use Rattle.machine.specs.declared.Judgement.{Judgement}
-use Rattle.machine.specs.declared.Judgement.the-variants.{Refuse, Wait, Perform}
+use Rattle.machine.specs.Judgements.{Judgement, Refuse, Wait, Perform}
 use Rattle.machine.specs.Pins.{ienHigh, strayPin, busClash}
 
 -- the pins of any cycle

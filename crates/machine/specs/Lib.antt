@@ -1,4 +1,5 @@
 pub mod Pins
+pub mod Judgements
 pub mod Judging
 pub mod Seeing
 pub mod Acting
@@ -6,3 +7,4 @@ pub mod Settling
 pub mod Reporting
 pub mod Cycles
 pub mod Deciding
+pub mod Stepping

@@ -2,6 +2,7 @@
 use crate::Effect;
 use crate::View;
 use crate::seeing::operand;
+use crate::seeing::sources;
 use alu::Mode;
 use alu::Operation;
 use alu::Outcome;
@@ -10,6 +11,7 @@ use plan::Plan;
 use plan::Shown;
 use plan::Task;
 ghost use mathlib.Core.Path.{_≡_};
+ghost use Rattle.machine.specs.Stepping.{operationOf};
 ghost use Rattle.machine.specs.Acting.{outcomeFor, busOf, widthMask, maskOf, takenStatus, statusFor, performedOf, effectBy, effectOf};
 
 // All ones at the width.
@@ -22,62 +24,52 @@ fn width_mask(mode: Mode) -> u16
     }
 }
 
-// The operation on its operands: x, y and the mask, each as the task has it.
+// The operation of a task on its operands: x, y and the mask, each as the task has it. The tasks of the status compute nothing, and are not
+// asked for.
+fn operation_of(task: Task, n: u8, x: u16, y: u16, mask: u16) -> Operation
+    ensures { λ r. ⌜ r ≡ operationOf task n x y mask ⌝ }
+{
+    match task {
+        Task::NoOperation => Operation::Rotate { n, source: x },
+        Task::TwoOperand(kind) => Operation::TwoOperand { kind, r: x, s: y },
+        Task::OneOperand(kind) => Operation::OneOperand { kind, source: x },
+        Task::Bit(kind) => Operation::Bit { kind, n, source: x },
+        Task::Shift(kind) => Operation::Shift { kind, source: x },
+        Task::Rotate => Operation::Rotate { n, source: x },
+        Task::Merge => Operation::Merge {
+            n,
+            u: x,
+            r: y,
+            mask,
+        },
+        Task::Compare => Operation::Compare {
+            n,
+            u: x,
+            r: y,
+            mask,
+        },
+        Task::Prioritize => Operation::Prioritize { source: x, mask },
+        Task::CrcForward => Operation::CrcForward {
+            register: x,
+            acc: y,
+        },
+        Task::CrcReverse => Operation::CrcReverse {
+            register: x,
+            acc: y,
+        },
+        Task::SaveStatus => Operation::Rotate { n, source: x },
+        Task::SetStatus(_) => Operation::Rotate { n, source: x },
+        Task::ResetStatus(_) => Operation::Rotate { n, source: x },
+        Task::TestStatus => Operation::Rotate { n, source: x },
+    }
+}
+
+// The outcome of a task. All that compute go by one call, because a function that is called in one place becomes a part of its caller.
 fn outcome_for(task: Task, mode: Mode, n: u8, x: u16, y: u16, mask: u16, status: u8) -> Outcome
     ensures { λ o. ⌜ o ≡ outcomeFor task mode n x y mask status ⌝ }
 {
     match task {
         Task::NoOperation => Outcome { result: 0, status },
-        Task::TwoOperand(kind) => alu::perform(
-            mode,
-            Operation::TwoOperand { kind, r: x, s: y },
-            status,
-        ),
-        Task::OneOperand(kind) => alu::perform(
-            mode,
-            Operation::OneOperand { kind, source: x },
-            status,
-        ),
-        Task::Bit(kind) => alu::perform(mode, Operation::Bit { kind, n, source: x }, status),
-        Task::Shift(kind) => alu::perform(mode, Operation::Shift { kind, source: x }, status),
-        Task::Rotate => alu::perform(mode, Operation::Rotate { n, source: x }, status),
-        Task::Merge => alu::perform(
-            mode,
-            Operation::Merge {
-                n,
-                u: x,
-                r: y,
-                mask,
-            },
-            status,
-        ),
-        Task::Compare => alu::perform(
-            mode,
-            Operation::Compare {
-                n,
-                u: x,
-                r: y,
-                mask,
-            },
-            status,
-        ),
-        Task::Prioritize => alu::perform(mode, Operation::Prioritize { source: x, mask }, status),
-        Task::CrcForward => alu::perform(
-            mode,
-            Operation::CrcForward {
-                register: x,
-                acc: y,
-            },
-            status,
-        ),
-        Task::CrcReverse => alu::perform(
-            mode,
-            Operation::CrcReverse {
-                register: x,
-                acc: y,
-            },
-            status,
-        ),
         Task::SaveStatus => Outcome {
             result: status as u16,
             status,
@@ -91,6 +83,7 @@ fn outcome_for(task: Task, mode: Mode, n: u8, x: u16, y: u16, mask: u16, status:
             status: status & (255 - bits),
         },
         Task::TestStatus => Outcome { result: 0, status },
+        _ => alu::perform(mode, operation_of(task, n, x, y, mask), status),
     }
 }
 
@@ -160,13 +153,14 @@ fn performed(plan: Plan, view: View) -> Outcome
     let first = operands.first;
     let second = operands.second;
     let mask = operands.mask;
+    let all = sources(view);
     outcome_for(
         task,
         mode,
         plan.n,
-        operand(first, view),
-        operand(second, view),
-        operand(mask, view),
+        operand(first, all),
+        operand(second, all),
+        operand(mask, all),
         view.status,
     )
 }

@@ -1,11 +1,12 @@
-// The Am29C116: its state, and one cycle of it. A machine goes in by value and comes back by value.
+// The Am29C116: its state, and one cycle of it. `step` is the cycle with RAM in place, for whoever runs many; `cycle` takes a machine by value
+// and gives it back by value.
 use isa::Named;
-use plan::Chooser;
 use plan::Destination;
 use plan::Plan;
 
 mod pins; // pins.rt: the levels of a cycle's pins
 mod judging; // judging.rt: refused, waiting or performed
+mod stepping; // stepping.rt: what is done in each of the three
 mod seeing; // seeing.rt: what an instruction sees
 mod acting; // acting.rt: what it does
 mod settling; // settling.rt: what is written
@@ -13,7 +14,8 @@ mod conditions; // conditions.rt: CT and T
 
 ghost use mathlib.Core.Path.{_≡_};
 ghost use Rattle.machine.specs.Judging.{mayStart};
-ghost use Rattle.machine.specs.Cycles.{refusedTurn, waitingTurn, reportOf, performedTurn, cycleOf, turnTells};
+ghost use Rattle.machine.specs.Cycles.{cycleOf, turnTells};
+ghost use Rattle.machine.specs.Stepping.{stateOf, coreOf, reportIn, stepTells, Steps};
 
 // The word of an instruction with an I operand, between its two cycles.
 pub enum Waiting {
@@ -23,6 +25,14 @@ pub enum Waiting {
 
 pub struct Registers {
     pub ram: [u16; 32],
+    pub acc: u16,
+    pub latch: u16,
+    pub status: u8,
+    pub waiting: Waiting,
+}
+
+// The registers but RAM.
+pub struct Core {
     pub acc: u16,
     pub latch: u16,
     pub status: u8,
@@ -67,11 +77,27 @@ pub struct Turn {
     pub answer: Answer,
 }
 
-// What a cycle is judged to be.
-pub enum Judgement {
-    Refuse(u8),
-    Wait,
-    Perform(Named, Plan, u16),
+// What a step leaves besides RAM, and tells: the number of its refusal or 0, what it shows, whether it only begins an instruction, and the
+// instruction of the word that it is about. Plain fields, because those stay in the processor's registers where an enum goes through memory.
+pub struct Stepped {
+    pub core: Core,
+    pub refusal: u8,
+    pub y: u16,
+    pub mask: u16,
+    pub ct: u8,
+    pub t: u8,
+    pub begins: bool,
+    pub named: Named,
+}
+
+// What a cycle is judged to be: the number of its refusal or 0, whether it only begins an instruction, and the instruction of the word that
+// it is about with its plan and its I operand. Plain fields, as above.
+pub struct Judged {
+    pub refusal: u8,
+    pub begins: bool,
+    pub named: Named,
+    pub plan: Plan,
+    pub immediate: u16,
 }
 
 // What an instruction sees: every word at its width, and the status.
@@ -102,92 +128,95 @@ pub fn may_start(waiting: Waiting) -> bool
     }
 }
 
-fn refused(machine: Machine, number: u8) -> Turn
-    ensures { λ r. ⌜ turnTells r ≡ refusedTurn machine number ⌝ }
+// The registers but RAM.
+pub fn core_of(registers: Registers) -> Core
+    ensures { λ r. ⌜ r ≡ coreOf registers ⌝ }
 {
-    Turn {
-        machine: machine,
-        answer: Answer::Refused(number),
+    let waiting = registers.waiting;
+    Core {
+        acc: registers.acc,
+        latch: registers.latch,
+        status: registers.status,
+        waiting: waiting,
     }
 }
 
-// A first immediate cycle.
-fn waits(registers: Registers, words: Words) -> Turn
-    ensures { λ r. ⌜ turnTells r ≡ waitingTurn registers words ⌝ }
+// The machine of RAM and the other registers.
+pub fn machine_of(ram: [u16; 32], core: Core) -> Machine
+    ensures { λ r. ⌜ r ≡ stateOf ram core ⌝ }
 {
-    let next = settling::with_waiting(registers, Waiting::Held(words.lines));
-    let report = Report {
-        y: 0,
-        mask: 0,
-        ct: conditions::ct(Chooser::Pins, registers.status, words.pins),
-        t: conditions::t(registers.status, words.pins),
-        completed: Completed::NoInstruction,
+    let waiting = core.waiting;
+    let registers = Registers {
+        ram: ram,
+        acc: core.acc,
+        latch: core.latch,
+        status: core.status,
+        waiting: waiting,
     };
-    Turn {
-        machine: Machine { registers: next },
-        answer: Answer::Accepted(report),
+    Machine {
+        registers: registers,
     }
 }
 
-fn reported(named: Named, effect: Effect, ct: u8, after: u8, levels: u16) -> Report
-    ensures { λ r. ⌜ r ≡ reportOf named effect ct after levels ⌝ }
+// One cycle with RAM in place: it is judged; then it is refused, or waits, or its instruction sees, acts and settles.
+pub fn step(ram: &mut [u16; 32], core: Core, words: Words) -> Stepped
+    ensures { λ r. ⌜ Steps (now (ram .entry)) core words r (now (ram .exit)) ⌝ }
 {
-    let t = conditions::t(after, levels);
-    let completed = Completed::Instruction(named);
-    if pins::oe_y_high(levels) {
-        return Report {
-            y: 0,
-            mask: 0,
-            ct: ct,
-            t: t,
-            completed: completed,
+    let waiting = core.waiting;
+    let judged = judging::judge(waiting, words);
+    let named = judged.named;
+    if judged.refusal != 0 {
+        return stepping::refused(named, core, judged.refusal);
+    }
+    let before = settling::latched(core, words.input, words.pins);
+    if judged.begins {
+        return stepping::waits(named, before, words);
+    }
+    let plan = judged.plan;
+    stepping::performs(ram, named, plan, before, judged.immediate, words.pins)
+}
+
+fn completed_by(stepped: Stepped) -> Completed
+    ensures { λ r. ⌜ r ≡ reportIn stepped .completed ⌝ }
+{
+    let named = stepped.named;
+    if stepped.begins {
+        Completed::NoInstruction
+    } else {
+        Completed::Instruction(named)
+    }
+}
+
+fn turn_of(ram: [u16; 32], stepped: Stepped) -> Turn
+    ensures { λ r. ⌜ turnTells r ≡ stepTells ram stepped ⌝ }
+{
+    let core = stepped.core;
+    let machine = machine_of(ram, core);
+    if stepped.refusal != 0 {
+        return Turn {
+            machine: machine,
+            answer: Answer::Refused(stepped.refusal),
         };
     }
-    Report {
-        y: effect.shown,
-        mask: effect.mask,
-        ct: ct,
-        t: t,
-        completed: completed,
-    }
-}
-
-// An instruction, with D latched already.
-fn performs(named: Named, plan: Plan, registers: Registers, immediate: u16, levels: u16) -> Turn
-    ensures { λ r. ⌜ turnTells r ≡ performedTurn named plan registers immediate levels ⌝ }
-{
-    let mode = plan.mode;
-    let work = plan.work;
-    let chooser = work.chooser;
-    let effect = acting::acted(
-        plan,
-        seeing::seen(mode, plan.register, registers, immediate),
-    );
-    let ct = conditions::ct(chooser, registers.status, levels);
-    let after = settling::settled(mode, plan.register, registers, effect, levels);
-    let report = reported(named, effect, ct, after.status, levels);
+    let report = Report {
+        y: stepped.y,
+        mask: stepped.mask,
+        ct: stepped.ct,
+        t: stepped.t,
+        completed: completed_by(stepped),
+    };
     Turn {
-        machine: Machine { registers: after },
+        machine: machine,
         answer: Answer::Accepted(report),
     }
 }
 
-// One cycle.
+// One cycle of a machine that goes in by value and comes back by value.
 pub fn cycle(machine: Machine, words: Words) -> Turn
     ensures { λ r. ⌜ turnTells r ≡ cycleOf machine words ⌝ }
 {
     let registers = machine.registers;
-    let waiting = registers.waiting;
-    let before = settling::latched(registers, words.input, words.pins);
-    match judging::judge(waiting, words) {
-        Judgement::Refuse(number) => refused(machine, number),
-        Judgement::Wait => waits(before, words),
-        Judgement::Perform(named, plan, immediate) => performs(
-            named,
-            plan,
-            before,
-            immediate,
-            words.pins,
-        ),
-    }
+    let mut ram = registers.ram;
+    let stepped = step(&mut ram, core_of(registers), words);
+    turn_of(ram, stepped)
 }

@@ -1,11 +1,14 @@
 // What an instruction sees, and the operands it takes from that.
-use crate::Registers;
+use crate::Core;
 use crate::View;
 use alu::Mode;
 use plan::Source;
 ghost use mathlib.Core.Path.{_≡_};
+ghost use Prim.Native.Nat.{_<_};
+ghost use lib.ListN.{getD};
 ghost use Rattle.alu.specs.Width.{widthOf, low};
-ghost use Rattle.machine.specs.Seeing.{viewOf, operandOf};
+ghost use Rattle.machine.specs.Seeing.{sourcesOf, placeOf};
+ghost use Rattle.machine.specs.Stepping.{seenOf};
 
 // The part of a word at the width.
 fn at_width(mode: Mode, x: u16) -> u16
@@ -17,30 +20,51 @@ fn at_width(mode: Mode, x: u16) -> u16
     }
 }
 
-pub(crate) fn seen(mode: Mode, register: u8, registers: Registers, immediate: u16) -> View
-    ensures { λ r. ⌜ r ≡ viewOf mode register registers immediate ⌝ }
+// What an instruction sees; word is its register's.
+pub(crate) fn seen(mode: Mode, word: u16, core: Core, immediate: u16) -> View
+    ensures { λ r. ⌜ r ≡ seenOf mode word core immediate ⌝ }
 {
-    let at = (register % 32) as usize;
-    let word = registers.ram[at];
     View {
         ram: at_width(mode, word),
-        acc: at_width(mode, registers.acc),
-        latch: at_width(mode, registers.latch),
+        acc: at_width(mode, core.acc),
+        latch: at_width(mode, core.latch),
         immediate: at_width(mode, immediate),
-        status: registers.status,
+        status: core.status,
     }
 }
 
-pub(crate) fn operand(source: Source, view: View) -> u16
-    ensures { λ r. ⌜ r ≡ operandOf source view ⌝ }
+// Every word that an operand can be, in the order of the sources: read by place, so that no branch hangs on the source.
+pub(crate) fn sources(view: View) -> [u16; 7]
+    ensures { λ r. ⌜ r ≡ sourcesOf view ⌝ }
+{
+    [
+        0,
+        view.ram,
+        view.acc,
+        view.latch,
+        view.immediate,
+        view.latch % 256,
+        view.latch % 256 + view.latch % 256 / 128 * 0xFF00,
+    ]
+}
+
+fn place(source: Source) -> usize
+    ensures { λ r. ⌜ (r ≡ placeOf source) × (r < 7) ⌝ }
 {
     match source {
         Source::Zero => 0,
-        Source::Ram => view.ram,
-        Source::Acc => view.acc,
-        Source::Latch => view.latch,
-        Source::Immediate => view.immediate,
-        Source::LatchZeroExtended => view.latch % 256,
-        Source::LatchSignExtended => view.latch % 256 + view.latch % 256 / 128 * 0xFF00,
+        Source::Ram => 1,
+        Source::Acc => 2,
+        Source::Latch => 3,
+        Source::Immediate => 4,
+        Source::LatchZeroExtended => 5,
+        Source::LatchSignExtended => 6,
     }
+}
+
+pub(crate) fn operand(source: Source, all: [u16; 7]) -> u16
+    ensures { λ r. ⌜ r ≡ getD all (placeOf source) 0 ⌝ }
+{
+    let at = place(source);
+    all[at]
 }

@@ -1,58 +1,59 @@
 // The only writer of registers.
+use crate::Core;
 use crate::Effect;
-use crate::Registers;
 use crate::Waiting;
 use crate::pins;
 use alu::Mode;
 use plan::Destination;
 ghost use mathlib.Core.Path.{_≡_};
-ghost use Rattle.machine.specs.Settling.{latched as specs·latched, withWaiting, ramAfter, accAfter, statusAfter, settledOf};
+ghost use Rattle.choice.specs.Pick.{pick};
+ghost use Rattle.machine.specs.Pins.{ienHigh};
+ghost use Rattle.machine.specs.Settling.{accAfter, statusAfter};
+ghost use Rattle.machine.specs.Stepping.{latchedCore, waitingCore, wordAfter, writtenWord, settledCore};
 
 // D takes the Y input where DLE is high.
-pub(crate) fn latched(registers: Registers, input: u16, levels: u16) -> Registers
-    ensures { λ r. ⌜ r ≡ specs·latched registers input levels ⌝ }
+pub(crate) fn latched(core: Core, input: u16, levels: u16) -> Core
+    ensures { λ r. ⌜ r ≡ latchedCore core input levels ⌝ }
 {
-    let mut next = registers;
+    let mut next = core;
     if pins::dle_high(levels) {
         next.latch = input;
     }
     next
 }
 
-pub(crate) fn with_waiting(registers: Registers, waiting: Waiting) -> Registers
-    ensures { λ r. ⌜ r ≡ withWaiting registers waiting ⌝ }
+pub(crate) fn with_waiting(core: Core, waiting: Waiting) -> Core
+    ensures { λ r. ⌜ r ≡ waitingCore core waiting ⌝ }
 {
-    let ram = registers.ram;
-    Registers {
-        ram: ram,
-        acc: registers.acc,
-        latch: registers.latch,
-        status: registers.status,
+    Core {
+        acc: core.acc,
+        latch: core.latch,
+        status: core.status,
         waiting: waiting,
     }
 }
 
-fn ram_after(
-    destination: Destination,
-    mode: Mode,
-    register: u8,
-    result: u16,
-    ram: [u16; 32],
-) -> [u16; 32]
-    ensures { λ r. ⌜ r ≡ ramAfter destination mode register result ram ⌝ }
+fn word_after(destination: Destination, mode: Mode, result: u16, word: u16) -> u16
+    ensures { λ r. ⌜ r ≡ wordAfter destination mode result word ⌝ }
 {
     match destination {
-        Destination::ToY => ram,
-        Destination::ToAcc => ram,
-        Destination::ToRam => {
-            let at = (register % 32) as usize;
-            let mut next = ram;
-            let old = next[at];
-            next[at] = alu::write_back(mode, old, result);
-            next
-        }
-        Destination::ToStatus => ram,
-        Destination::ToAccAndStatus => ram,
+        Destination::ToY => word,
+        Destination::ToAcc => word,
+        Destination::ToRam => alu::write_back(mode, word, result),
+        Destination::ToStatus => word,
+        Destination::ToAccAndStatus => word,
+    }
+}
+
+// The named register's word after an instruction.
+pub(crate) fn written(mode: Mode, effect: Effect, word: u16, levels: u16) -> u16
+    ensures { λ r. ⌜ r ≡ writtenWord mode effect word levels ⌝ }
+{
+    let destination = effect.destination;
+    if pins::ien_high(levels) {
+        word
+    } else {
+        word_after(destination, mode, effect.result, word)
     }
 }
 
@@ -74,34 +75,25 @@ fn status_after(old: u8, new: u8, levels: u16) -> u8
     if pins::both_low(levels) { new } else { old }
 }
 
-// The registers after an instruction; register is the one that is written.
-pub(crate) fn settled(
-    mode: Mode,
-    register: u8,
-    registers: Registers,
-    effect: Effect,
-    levels: u16,
-) -> Registers
-    ensures { λ r. ⌜ r ≡ settledOf mode register registers effect levels ⌝ }
+fn acc_settled(mode: Mode, effect: Effect, acc: u16, levels: u16) -> u16
+    ensures { λ r. ⌜ r ≡ pick (ienHigh levels) acc (accAfter (effect .destination) mode (effect .result) acc) ⌝ }
 {
-    let ram = registers.ram;
     let destination = effect.destination;
-    let status = status_after(registers.status, effect.status, levels);
     if pins::ien_high(levels) {
-        return Registers {
-            ram: ram,
-            acc: registers.acc,
-            latch: registers.latch,
-            status: status,
-            waiting: Waiting::Nothing,
-        };
+        acc
+    } else {
+        acc_after(destination, mode, effect.result, acc)
     }
-    let after = ram_after(destination, mode, register, effect.result, ram);
-    Registers {
-        ram: after,
-        acc: acc_after(destination, mode, effect.result, registers.acc),
-        latch: registers.latch,
-        status: status,
+}
+
+// The other registers after an instruction.
+pub(crate) fn settled(mode: Mode, core: Core, effect: Effect, levels: u16) -> Core
+    ensures { λ r. ⌜ r ≡ settledCore mode core effect levels ⌝ }
+{
+    Core {
+        acc: acc_settled(mode, effect, core.acc, levels),
+        latch: core.latch,
+        status: status_after(core.status, effect.status, levels),
         waiting: Waiting::Nothing,
     }
 }

@@ -1,5 +1,5 @@
 -- The run's loop: what holds before each cycle, that an accepted cycle keeps it, and the answer at each way out.
-use mathlib.Core.Path.{_≡_, refl, sym, ap, _∙_}
+use mathlib.Core.Path.{_≡_, refl, sym, ap, subst, _∙_}
 use mathlib.Core.List.{List, [], _∷_, _++_, append-nil}
 use Prim.Native.Nat.{ℕ, suc, _+_, _*_, _-_, _≤_, _<_}
 use native.Mathlib.Nat.{add-zero}
@@ -9,9 +9,11 @@ use lib.Seq.{sets, length-sets, drop-drop}
 use Rattle.choice.specs.Tells.{Tells, accepted, refused, Placed}
 use Rattle.machine.specs.declared.Machine.{Machine}
 use Rattle.machine.specs.declared.Report.{Report}
-use Rattle.machine.specs.declared.Answer.{Answer}
-use Rattle.machine.specs.declared.Turn.{Turn}
-use Rattle.machine.specs.Cycles.{Turned, cycleOf, completions, answerTells, turnTells}
+use Rattle.machine.specs.declared.Core.{Core}
+use Rattle.machine.specs.declared.Words.{Words}
+use Rattle.machine.specs.Stepping.{stateOf, coreOf}
+use Rattle.machine.proofs.Laws.{refused-unchanged}
+use Rattle.machine.specs.Cycles.{Turned, cycleOf, completions}
 use Rattle.run.specs.declared.Ending.{Ending}
 use Rattle.run.specs.declared.Ending.the-variants.{Done, Stopped, Refused}
 use Rattle.run.specs.declared.Ran.{Ran}
@@ -100,23 +102,25 @@ module _ {words : List ℕ} {budget : ℕ} {start : Machine} {reports₀ : List 
       ∙ ap (λ (n : ℕ). preceded (b .past) (runFrom state 0 (cyclesFrom words i n))) e)
 
   -- cycle i is judged
-  module _ (h : i < cycles) (more : left ≡ 0 → ⊥) (t : Turn) (p : turnTells t ≡ cycleOf state (cycleAt words i)) where
+  module _ (h : i < cycles) (more : left ≡ 0 → ⊥) (x : Turned) (p : x ≡ cycleOf state (cycleAt words i)) where
     abbrev next : Course
-    next = runFrom (t .machine) (left - 1) (cyclesFrom words (i + 1) (cycles - (i + 1)))
+    next = runFrom (x .machine) (left - 1) (cyclesFrom words (i + 1) (cycles - (i + 1)))
 
-    answered : whole ≡ preceded (b .past) (turnThen (answerTells (t .answer)) (t .machine) next)
+    answered : whole ≡ preceded (b .past) (turnThen (x .answer) (x .machine) next)
     answered =
         b .course
         ∙ ap (preceded (b .past)) (runs-on state left words i cycles h more
         ∙ ap (λ (x : Turned). turnThen (x .answer) (x .machine) (runFrom (x .machine) (left - 1) (cyclesFrom words (i + 1) (cycles - (i + 1))))) (sym p))
 
-    pub refuses : (k : ℕ) → t .answer ≡ Answer.Refused k → Gives start whole (ran (Refused k i)) reports₀ reports
+    pub refuses : (k : ℕ) → x .answer ≡ refused k
+        → Gives start whole (record { machine = x .machine; ending = Refused k i; accepted = i; completed = completed }) reports₀ reports
     refuses k e =
-        closes (refused k) (Refused k i) refl
-        (answered ∙ ap (preceded (b .past)) (refused-then (t .machine) next (answerTells (t .answer)) k (ap answerTells e)))
+        let kept : state ≡ x .machine = sym (ap (λ (x : Turned). x .machine) p ∙ refused-unchanged state (cycleAt words i) k (ap (λ (x : Turned). x .answer) (sym p) ∙ e)) in
+        subst (λ (m : Machine). Gives start whole (record { machine = m; ending = Refused k i; accepted = i; completed = completed }) reports₀ reports) kept
+        (closes (refused k) (Refused k i) refl (answered ∙ ap (preceded (b .past)) (refused-then (x .machine) next (x .answer) k e)))
 
-    pub again : (r : Report) (reports′ : List ℕ) → t .answer ≡ Answer.Accepted r → reports′ ≡ sets reports (wordsPerReport * i) (reportWords r)
-        → Before words budget start reports₀ cycles reports′ (t .machine) (left - 1) (completed + completions (r .completed)) (i + 1)
+    pub again : (r : Report) (reports′ : List ℕ) → x .answer ≡ accepted r → reports′ ≡ sets reports (wordsPerReport * i) (reportWords r)
+        → Before words budget start reports₀ cycles reports′ (x .machine) (left - 1) (completed + completions (r .completed)) (i + 1)
     again r reports′ e q = record {
       past = b .past ++ step ∷ [];
       bound = omega arith;
@@ -137,14 +141,20 @@ module _ {words : List ℕ} {budget : ℕ} {start : Machine} {reports₀ : List 
           ∙ further reports ∙ ap (drop wordsPerReport) (b .rest) ∙ sym (further reports₀);
       course =
           answered
-          ∙ ap (preceded (b .past)) (accepted-then (t .machine) next (answerTells (t .answer)) r (ap answerTells e))
+          ∙ ap (preceded (b .past)) (accepted-then (x .machine) next (x .answer) r e)
           ∙ preceded-more (b .past) (step ∷ []) next;
     }
       where
         step : Step
-        step = record { machine = t .machine; report = r }
+        step = record { machine = x .machine; report = r }
 
         further : (l : List ℕ) → drop (wordsPerReport * (i + 1)) l ≡ drop wordsPerReport (drop (wordsPerReport * i) l)
         further l =
             let g : wordsPerReport * (i + 1) ≡ wordsPerReport * i + wordsPerReport = omega arith in
             ap (λ (j : ℕ). drop j l) g ∙ sym (drop-drop wordsPerReport (wordsPerReport * i) l)
+
+-- a run from a machine's RAM and core is one from the machine
+pub from-parts : (m : Machine) (k : Core) → k ≡ coreOf (m .registers) → (budget : ℕ) (cs : List Words) (r : Ran) (x y : List ℕ)
+    → Gives (stateOf (m .registers .ram) k) (runFrom (stateOf (m .registers .ram) k) budget cs) r x y → Gives m (runFrom m budget cs) r x y
+from-parts m k e budget cs r x y g =
+    subst (λ (k : Core). Gives (stateOf (m .registers .ram) k) (runFrom (stateOf (m .registers .ram) k) budget cs) r x y) e g

@@ -1,9 +1,8 @@
 // A run of the machine: cycles from a lent slice of words, reports into a lent slice, and one answer.
-use machine::Answer;
-use machine::Completed;
+use machine::Core;
 use machine::Machine;
 use machine::Registers;
-use machine::Report;
+use machine::Stepped;
 use machine::Waiting;
 use machine::Words;
 ghost use mathlib.Core.Path.{_≡_};
@@ -12,6 +11,7 @@ ghost use lib.ListN.{length};
 ghost use lib.Seq.{sets};
 ghost use Rattle.choice.specs.Checks.{refusal};
 ghost use Rattle.machine.specs.Cycles.{completions};
+ghost use Rattle.machine.specs.Stepping.{stateOf, reportIn};
 ghost use Rattle.run.specs.Splitting.{wordsPerCycle, wordsPerReport, cycleAt, cyclesIn, cyclesOf, reportWords};
 ghost use Rattle.run.specs.Courses.{runFrom};
 ghost use Rattle.run.specs.Runs.{mostCycles, startChecks, runOf, zeroMachine, fullBudget, Gives};
@@ -72,30 +72,28 @@ fn cycle_at(words: &[u16], i: usize) -> Words
 }
 
 // The report of cycle i, in its place.
-fn put(reports: &mut [u16], i: usize, report: Report)
+fn put(reports: &mut [u16], i: usize, stepped: Stepped)
     requires { ⌜ wordsPerReport * i + wordsPerReport ≤ length (now reports) ⌝ }
-    ensures { λ _. ⌜ now (reports .exit) ≡ sets (now (reports .entry)) (wordsPerReport * i) (reportWords report) ⌝ }
+    ensures { λ _. ⌜ now (reports .exit) ≡ sets (now (reports .entry)) (wordsPerReport * i) (reportWords (reportIn stepped)) ⌝ }
 {
     let at = WORDS_PER_REPORT * i;
-    reports[at] = report.y;
-    reports[at + 1] = report.mask;
-    reports[at + 2] = report.ct as u16;
-    reports[at + 3] = report.t as u16;
+    reports[at] = stepped.y;
+    reports[at + 1] = stepped.mask;
+    reports[at + 2] = stepped.ct as u16;
+    reports[at + 3] = stepped.t as u16;
 }
 
 // A waiting cycle completes no instruction.
-fn instructions(completed: Completed) -> usize
-    ensures { λ r. ⌜ r ≡ completions completed ⌝ }
+fn instructions(stepped: Stepped) -> usize
+    ensures { λ r. ⌜ r ≡ completions (reportIn stepped .completed) ⌝ }
 {
-    match completed {
-        Completed::NoInstruction => 0,
-        Completed::Instruction(_) => 1,
-    }
+    if stepped.begins { 0 } else { 1 }
 }
 
-fn ended(machine: Machine, ending: Ending, accepted: usize, completed: usize) -> Ran
-    ensures { λ r. ⌜ r ≡ record { machine = machine; ending = ending; accepted = accepted; completed = completed } ⌝ }
+fn ended(ram: [u16; 32], core: Core, ending: Ending, accepted: usize, completed: usize) -> Ran
+    ensures { λ r. ⌜ r ≡ record { machine = stateOf ram core; ending = ending; accepted = accepted; completed = completed } ⌝ }
 {
+    let machine = machine::machine_of(ram, core);
     Ran {
         machine: machine,
         ending: ending,
@@ -104,38 +102,33 @@ fn ended(machine: Machine, ending: Ending, accepted: usize, completed: usize) ->
     }
 }
 
-// The cycles one after another, once the run as a whole is accepted.
-fn run_cycles(machine: Machine, words: &[u16], budget: u64, reports: &mut [u16]) -> Ran
+// The cycles one after another, once the run as a whole is accepted. RAM stays in its place, and each step writes into it.
+fn run_cycles(ram: [u16; 32], core: Core, words: &[u16], budget: u64, reports: &mut [u16]) -> Ran
     requires { ⌜ (cyclesIn (length (now words)) * wordsPerCycle ≡ length (now words)) × (cyclesIn (length (now words)) ≤ mostCycles) × (wordsPerReport * cyclesIn (length (now words)) ≤ length (now reports)) ⌝ }
-    ensures { λ r. ⌜ Gives machine (runFrom machine budget (cyclesOf (now (words .entry)))) r (now (reports .entry)) (now (reports .exit)) ⌝ }
+    ensures { λ r. ⌜ Gives (stateOf ram core) (runFrom (stateOf ram core) budget (cyclesOf (now (words .entry)))) r (now (reports .entry)) (now (reports .exit)) ⌝ }
 {
     let cycles = words.len() / WORDS_PER_CYCLE;
-    let mut state = machine;
+    let mut ram = ram;
+    let mut core = core;
     let mut left = budget;
     let mut completed: usize = 0;
     let mut i: usize = 0;
     while i < cycles {
         if left == 0 {
-            return ended(state, Ending::Stopped, i, completed);
+            return ended(ram, core, Ending::Stopped, i, completed);
         }
-        let turn = machine::cycle(state, cycle_at(words, i));
-        let answer = turn.answer;
-        match answer {
-            Answer::Refused(number) => {
-                return ended(state, Ending::Refused(number, i), i, completed);
-            }
-            Answer::Accepted(report) => {
-                put(reports, i, report);
-                let next = turn.machine;
-                let what = report.completed;
-                state = next;
-                completed = completed + instructions(what);
-                left = left - 1;
-                i = i + 1;
-            }
+        let stepped = machine::step(&mut ram, core, cycle_at(words, i));
+        let next = stepped.core;
+        if stepped.refusal != 0 {
+            return ended(ram, next, Ending::Refused(stepped.refusal, i), i, completed);
         }
+        put(reports, i, stepped);
+        core = next;
+        completed = completed + instructions(stepped);
+        left = left - 1;
+        i = i + 1;
     }
-    ended(state, Ending::Done, i, completed)
+    ended(ram, core, Ending::Done, i, completed)
 }
 
 // A run: at most 4,096 cycles of three words, a budget that is a number of cycles, and four words of room for each report.
@@ -144,11 +137,13 @@ pub fn run(machine: Machine, words: &[u16], budget: u64, reports: &mut [u16]) ->
 {
     let registers = machine.registers;
     let waiting = registers.waiting;
+    let ram = registers.ram;
+    let core = machine::core_of(registers);
     let number = start_refusal(waiting, words.len(), reports.len());
     if number != 0 {
-        return ended(machine, Ending::Refused(number, 0), 0, 0);
+        return ended(ram, core, Ending::Refused(number, 0), 0, 0);
     }
-    run_cycles(machine, words, budget, reports)
+    run_cycles(ram, core, words, budget, reports)
 }
 
 fn all_zero() -> Machine

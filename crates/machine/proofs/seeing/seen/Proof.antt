@@ -1,17 +1,7 @@
 -- `machine::seeing::seen` meets its contract: each word is taken at the width.
-use Rattle.machine.specs.Seeing.{viewOf}
 use borrow.Author.Needs.{needs}
 use Rattle.machine.proofs.seeing.seen.Statement.{statement}
 use Rattle.machine.proofs.seeing.seen.Tie as tie
-
-cast-at : tie.Need-cast-at
-cast-at c = search needs
-
-mul-word : tie.Need-mul-word
-mul-word c = search needs
-
-element-copy-out-word : tie.Need-element-copy-out-word
-element-copy-out-word c = search needs
 
 at-width-requires : tie.Need-at-width-requires
 at-width-requires c κs = search needs
@@ -26,16 +16,12 @@ at-width-requires-4 : tie.Need-at-width-requires-4
 at-width-requires-4 c κs = search needs
 
 returns : tie.Need-returns
-unfolding viewOf
 returns c = rw (c .at-width4 .ensures, c .before .at-width3 .ensures, c .before .before .at-width2 .ensures, c .before .before .before .at-width .ensures)
 
 pub seen-spec : {M : Type 1} → statement M
 seen-spec =
     tie.close
     (tie.spec
-    cast-at
-    mul-word
-    element-copy-out-word
     at-width-requires
     at-width-requires-2
     at-width-requires-3

@@ -1,36 +1,16 @@
--- `machine::settling::settled` meets its contract: IEN decides on RAM and ACC.
-use Rattle.machine.specs.Settling.{settledOf}
+-- `machine::settling::settled` meets its contract: its parts are those of the definition.
 use borrow.Author.Needs.{needs}
 use Rattle.machine.proofs.settling.settled.Statement.{statement}
 use Rattle.machine.proofs.settling.settled.Tie as tie
 
+acc-settled-requires : tie.Need-acc-settled-requires
+acc-settled-requires c κs = search needs
+
 status-after-requires : tie.Need-status-after-requires
 status-after-requires c κs = search needs
 
-ien-high-requires : tie.Need-ien-high-requires
-ien-high-requires c κs = search needs
-
 returns : tie.Need-returns
-unfolding settledOf
-returns c = rw (c .before .before .status-after .ensures, ← c .before .ien-high .ensures, c .if1 .taken)
-
-ram-after-requires : tie.Need-ram-after-requires
-ram-after-requires c κs = search needs
-
-acc-after-requires : tie.Need-acc-after-requires
-acc-after-requires c κs = search needs
-
-returns-2 : tie.Need-returns-2
-unfolding settledOf
-returns-2 c = rw (c .acc-after .ensures, c .before .ram-after .ensures, c .before .before .before .before .status-after .ensures, ← c .before .before .before .ien-high .ensures, c .before .before .if1 .left)
+returns c = rw (c .status-after .ensures, c .before .acc-settled .ensures)
 
 pub settled-spec : {M : Type 1} → statement M
-settled-spec =
-    tie.close
-    (tie.spec
-    status-after-requires
-    ien-high-requires
-    returns
-    ram-after-requires
-    acc-after-requires
-    returns-2)
+settled-spec = tie.close (tie.spec acc-settled-requires status-after-requires returns)

@@ -1,0 +1,117 @@
+-- The judge's ways out, from the numbers and tests that it took: each is what the list of checks says.
+use mathlib.Core.Path.{_≡_, refl, _∙_, sym, ap}
+use mathlib.Core.Bool.{Bool, true, false, not}
+use mathlib.Core.List.{List, [], _∷_}
+use Prim.Native.Nat.{ℕ, _<_}
+use lib.Dec.{eqb}
+use borrow.Author.Tests.{eq-eqb, ne-eqb, eqb-true, eqb-false}
+use Rattle.choice.specs.Pick.{pick}
+use Rattle.choice.specs.Checks.{Check, check, refusal}
+use Rattle.choice.proofs.Checks.{held, passed, ahead, behind}
+use Rattle.choice.proofs.Picks.{picked, unpicked}
+use Rattle.choice.proofs.Spans.{never}
+use Rattle.choice.proofs.Tells.{told-number}
+use Rattle.isa.specs.declared.Lookup.{Lookup}
+use Rattle.isa.specs.declared.Named.{Named}
+use Rattle.isa.specs.Words.{decodeOf, lookupOf, wordChecks, namedBy, namesI as wordNamesI, takesImmediate}
+use Rattle.isa.proofs.Answers.{decode-accepted, decode-refused}
+use Rattle.plan.specs.declared.Plan.{Plan}
+use Rattle.plan.specs.Plans.{planOf}
+use Rattle.plan.specs.Reading.{namesI}
+use Rattle.plan.proofs.Laws.{word-immediate}
+use Rattle.machine.specs.declared.Waiting.{Waiting}
+use Rattle.machine.specs.declared.Waiting.the-variants.{Nothing, Held}
+use Rattle.machine.specs.declared.Words.{Words}
+use Rattle.machine.specs.declared.Judged.{Judged}
+use Rattle.machine.specs.Judgements.{Judgement, Refuse, Wait, Perform}
+use Rattle.machine.specs.Pins.{ienHigh}
+use Rattle.machine.specs.Judging.{pinChecks, checksOf, judgementOf}
+use Rattle.machine.specs.Deciding.{wordAbout, immediateIn, onlyBegins, beginBy, cycleBy, judgedOf, judgementIn}
+
+-- a cycle with nothing waiting: the pins, then the word's own number, then IEN
+module _ (wrong : ℕ) (asks : Bool) (pins bad : ℕ) (e : bad ≡ refusal (pinChecks pins [])) where
+  abbrev late : List Check
+  late = check 10 (pick asks (ienHigh pins) false) ∷ []
+
+  abbrev rest : List Check
+  rest = check wrong (not (eqb wrong 0)) ∷ late
+
+  pub begin-pins : (bad ≡ 0 → ⊥) → bad ≡ beginBy wrong asks pins
+  begin-pins n = e ∙ sym (ahead (pinChecks pins []) rest (λ z. n (e ∙ z)))
+
+  past-pins : bad ≡ 0 → beginBy wrong asks pins ≡ refusal rest
+  past-pins z = behind (pinChecks pins []) rest tt (sym e ∙ z)
+
+  pub begin-word : bad ≡ 0 → (wrong ≡ 0 → ⊥) → wrong ≡ beginBy wrong asks pins
+  begin-word z n = sym (past-pins z ∙ held wrong (not (eqb wrong 0)) late (ap not (ne-eqb wrong 0 n)))
+
+  -- the number of the last check, once its condition is known
+  pub begin-late : bad ≡ 0 → wrong ≡ 0 → (b : Bool) → pick asks (ienHigh pins) false ≡ b → refusal (check 10 b ∷ []) ≡ beginBy wrong asks pins
+  begin-late z y b q =
+      ap (λ (b : Bool). refusal (check 10 b ∷ [])) (sym q)
+      ∙ sym (past-pins z ∙ passed wrong (not (eqb wrong 0)) late (ap not (eq-eqb wrong 0 y)))
+
+-- a word, what was found of it, and its plan: it asks for an I operand if it is not refused and the plan names one
+module _ (w : ℕ) (h : w < 0x10000) (l : Lookup) (e : l ≡ lookupOf w) (p : Plan) (f : p ≡ planOf (l .named)) where
+  pub asks-right : (asks : Bool) → asks ≡ pick (eqb (l .refusal) 0) (namesI (p .work)) false → asks ≡ takesImmediate w
+  unfolding takesImmediate
+  asks-right asks a = a ∙ by-test (eqb (l .refusal) 0) refl
+    where
+      by-test : (z : Bool) → eqb (l .refusal) 0 ≡ z → pick z (namesI (p .work)) false ≡ takesImmediate w
+      by-test true q =
+          ap (λ (p : Plan). namesI (p .work)) f
+          ∙ sym (word-immediate w h (l .named) (sym (decode-accepted w l e (eqb-true (l .refusal) 0 q))))
+      by-test false q = ap (λ t. wordNamesI (t .value)) (decode-refused w l e (eqb-false (l .refusal) 0 q))
+
+-- the word's refusal is decoding's number
+wrong-right : (w : ℕ) → lookupOf w .refusal ≡ decodeOf w .number
+unfolding lookupOf decodeOf
+wrong-right w = sym (told-number (refusal (wordChecks w)) (namedBy w))
+
+-- what the checks give, by what was found of the word
+checks-right : (x : Waiting) (c : Words) (wrong : ℕ) (asks : Bool) → wrong ≡ decodeOf (wordAbout x (c .lines)) .number → asks ≡ takesImmediate (wordAbout x (c .lines))
+    → cycleBy x wrong asks (c .pins) ≡ refusal (checksOf x c)
+checks-right Nothing c wrong asks e a =
+    ap (λ (i : ℕ). cycleBy Nothing i asks (c .pins)) e ∙ ap (λ (b : Bool). cycleBy Nothing (decodeOf (c .lines) .number) b (c .pins)) a
+checks-right (Held w) c wrong asks e a = ap (λ (b : Bool). cycleBy (Held w) wrong b (c .pins)) a
+
+-- the flat judgement, by its parts
+module _ (x : Waiting) (c : Words) (w : ℕ) (h : w < 0x10000) (v : w ≡ wordAbout x (c .lines)) (l : Lookup) (e : l ≡ lookupOf w) (p : Plan) (f : p ≡ planOf (l .named))
+    (asks : Bool) (a : asks ≡ pick (eqb (l .refusal) 0) (namesI (p .work)) false) where
+  asked : asks ≡ takesImmediate (wordAbout x (c .lines))
+  asked = asks-right w h l e p f asks a ∙ ap takesImmediate v
+
+  named : l .named ≡ namedBy (wordAbout x (c .lines))
+  unfolding lookupOf
+  named = ap (λ (l : Lookup). l .named) e ∙ ap namedBy v
+
+  pub judge-right : (number : ℕ) → number ≡ cycleBy x (l .refusal) asks (c .pins) → (begins : Bool) → begins ≡ onlyBegins x asks
+      → (immediate : ℕ) → immediate ≡ immediateIn x (c .lines)
+      → record { refusal = number; begins = begins; named = l .named; plan = p; immediate = immediate } ≡ judgedOf x c
+  unfolding judgedOf
+  judge-right number r begins s immediate t =
+      let wrong : l .refusal ≡ decodeOf (wordAbout x (c .lines)) .number = ap (λ (l : Lookup). l .refusal) e ∙ wrong-right w ∙ ap (λ (w : ℕ). decodeOf w .number) v in
+      let numbered = r ∙ checks-right x c (l .refusal) asks wrong asked in
+      let planned : p ≡ planOf (namedBy (wordAbout x (c .lines))) = f ∙ ap planOf named in
+      let begun : begins ≡ onlyBegins x (takesImmediate (wordAbout x (c .lines))) = s ∙ ap (onlyBegins x) asked in
+      rw (numbered, begun, planned, named, t)
+
+-- a flat judgement is the definition's
+pub judgement-flat : (x : Waiting) (c : Words) → judgementOf x c ≡ judgementIn (judgedOf x c)
+unfolding judgementOf judgedOf
+judgement-flat Nothing c = refl
+judgement-flat (Held w) c = refl
+
+-- and what it is, once its fields are known
+module _ (j : Judged) where
+  pub in-refused : (j .refusal ≡ 0 → ⊥) → judgementIn j ≡ Refuse (j .refusal)
+  in-refused n = unpicked (eqb (j .refusal) 0) (pick (j .begins) Wait (Perform (j .named) (j .plan) (j .immediate))) (Refuse (j .refusal)) (ne-eqb (j .refusal) 0 n)
+
+  good : j .refusal ≡ 0 → judgementIn j ≡ pick (j .begins) Wait (Perform (j .named) (j .plan) (j .immediate))
+  good z = picked (eqb (j .refusal) 0) (pick (j .begins) Wait (Perform (j .named) (j .plan) (j .immediate))) (Refuse (j .refusal)) (eq-eqb (j .refusal) 0 z)
+
+  pub in-waiting : j .refusal ≡ 0 → j .begins ≡ true → judgementIn j ≡ Wait
+  in-waiting z b = good z ∙ picked (j .begins) Wait (Perform (j .named) (j .plan) (j .immediate)) b
+
+  pub in-performed : j .refusal ≡ 0 → j .begins ≡ false → judgementIn j ≡ Perform (j .named) (j .plan) (j .immediate)
+  in-performed z b = good z ∙ unpicked (j .begins) Wait (Perform (j .named) (j .plan) (j .immediate)) b
