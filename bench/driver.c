@@ -1,7 +1,7 @@
 /* Times the proved run against the plain C emulator, in one process and on the same cycles.
  *
- * usage: driver              compares every report, then prints the best of nine times of each run
- *        driver alone|c      makes every run once by one of them, for a tool that counts instructions
+ * usage: driver                   compares every report, then prints the best of nine times of each run
+ *        driver alone|c|none N    makes the first N traces and runs each once by one of them or none, for a tool that counts instructions
  */
 #include "emulator.h"
 
@@ -16,6 +16,7 @@
    archive has nothing else in it, the second has the block check beside it. */
 size_t firanbekwo_run(const uint16_t *words, size_t word_count, uint16_t *reports, size_t report_count);
 size_t firanbekwo_run_beside_check(const uint16_t *words, size_t word_count, uint16_t *reports, size_t report_count);
+uint16_t firanbekwo_check(const uint8_t *bytes, size_t byte_count);
 
 enum { TRACES = 16, CYCLES = 4096, WORDS = 3 * CYCLES, REPORTS = 4 * CYCLES, PASSES = 9, REPEATS = 8 };
 
@@ -23,21 +24,20 @@ struct trace {
     uint16_t words[WORDS];
 };
 
-/* A run of one trace into a slice of reports. Not inlined, so that a tool can count what happens in it. */
-#define NOT_INLINED __attribute__((noinline))
+/* A run of one trace into a slice of reports. */
 typedef size_t run_function(const struct trace *, uint16_t *reports);
 
-NOT_INLINED static size_t run_alone(const struct trace *trace, uint16_t *reports)
+static size_t run_alone(const struct trace *trace, uint16_t *reports)
 {
     return firanbekwo_run(trace->words, WORDS, reports, REPORTS);
 }
 
-NOT_INLINED static size_t run_beside_check(const struct trace *trace, uint16_t *reports)
+static size_t run_beside_check(const struct trace *trace, uint16_t *reports)
 {
     return firanbekwo_run_beside_check(trace->words, WORDS, reports, REPORTS);
 }
 
-NOT_INLINED static size_t run_c(const struct trace *trace, uint16_t *reports)
+static size_t run_c(const struct trace *trace, uint16_t *reports)
 {
     struct emulator machine = {0};
     uint8_t refusal;
@@ -123,18 +123,33 @@ static void measure(const struct trace *traces, const char *name)
     printf("%s, ours : C: run alone %.3f, with trace linked %.3f\n", name, alone / c, beside_check / c);
 }
 
+static void count_runs(const char *name, int traces)
+{
+    static struct trace trace;
+    for (int i = 0; i < traces; i++) {
+        make_trace(&trace, false);
+        if (strcmp(name, "alone") == 0)
+            run_alone(&trace, reports);
+        else if (strcmp(name, "c") == 0)
+            run_c(&trace, reports);
+    }
+}
+
 int main(int count, char **arguments)
 {
     static struct trace any_mode[TRACES], byte_mode[TRACES];
+    if (count == 3) {
+        count_runs(arguments[1], atoi(arguments[2]));
+        return 0;
+    }
+    /* that trace is linked indeed: the check's test vector */
+    if (firanbekwo_check((const uint8_t *)"123456789", 9) != 0x31C3) {
+        puts("the check of 123456789 is not 31C3");
+        return 1;
+    }
     for (int i = 0; i < TRACES; i++) {
         make_trace(any_mode + i, false);
         make_trace(byte_mode + i, true);
-    }
-    if (count == 2) {
-        run_function *run = strcmp(arguments[1], "c") == 0 ? run_c : run_alone;
-        for (int i = 0; i < TRACES; i++)
-            run(any_mode + i, reports);
-        return 0;
     }
     measure(any_mode, "any mode");
     measure(byte_mode, "byte mode");

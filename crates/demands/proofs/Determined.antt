@@ -8,11 +8,10 @@ use Rattle.alu.proofs.Unique.{perform-unique, write-back-unique}
 use Rattle.isa.proofs.Laws.{decode-unique, look-up-unique, encode-unique, takes-immediate-unique}
 use Rattle.plan.proofs.Laws.{plan-for-unique, names-immediate-unique}
 use Rattle.machine.proofs.Laws.{cycle-unique, may-start-unique}
-use Rattle.machine.proofs.Steps.{step-unique, core-of-unique, machine-of-unique}
+use Rattle.machine.proofs.Steps.{step-unique, core-of-unique, machine-from-unique}
 use Rattle.run.specs.Runs.{runOf, zeroMachine, fullBudget}
 use Rattle.run.proofs.Laws.{run-unique}
-use Rattle.bench_run.proofs.Laws.{counts-unique}
-use Rattle.demands.specs.Calls.{Filling, Determined, Starts, TakesText, Performs, WritesBack, Decodes, LooksUp, Encodes, TakesImmediate, Plans, NamesImmediate, Cycles, StepsMachine, TakesApart, PutsTogether, MayStart, Runs, RunsFromZero, RunsCounted, Checks, ReadsTrace, WritesTrace, Keeps, MakesLine, CycleLines, StateLines, RegisterLines, LastLines, PageLines, WordsLines, FaultLines}
+use Rattle.demands.specs.Calls.{Filling, Determined, Starts, TakesText, Performs, WritesBack, Decodes, LooksUp, Encodes, TakesImmediate, Plans, NamesImmediate, Cycles, StepsMachine, TakesApart, PutsTogether, MayStart, Runs, RunsFromZero, Checks, ReadsTrace, WritesTrace, Keeps, MakesLine, CycleLines, StateLines, RegisterLines, LastLines, PageLines, WordsLines, FaultLines}
 use Rattle.trace.proofs.Unique.{check-unique, read-unique, write-unique, kept-unique}
 use Rattle.lines.proofs.Answered.{makes-unique}
 
@@ -42,11 +41,10 @@ pub record EveryCall : Type 0 where
   pub cycle : Determined Cycles
   pub step : Determined StepsMachine
   pub core-of : Determined TakesApart
-  pub machine-of : Determined PutsTogether
+  pub machine-from : Determined PutsTogether
   pub may-start : Determined MayStart
   pub run : Determined Runs
   pub run-from-zero : Determined RunsFromZero
-  pub exported-run : Determined RunsCounted
   pub check : Determined Checks
   pub read : Determined ReadsTrace
   pub write : Determined WritesTrace
@@ -74,11 +72,10 @@ every-call = record {
   cycle = λ i x y f g. cycle-unique (i .0) (i .1) x y f g;
   step = λ i x y f g. same-filling x y (step-unique (i .0) (i .1) (i .2) (x .answer) (y .answer) (x .after) (y .after) f g);
   core-of = core-of-unique;
-  machine-of = λ i x y f g. machine-of-unique (i .0) (i .1) x y f g;
+  machine-from = λ i x y f g. machine-from-unique (i .0) (i .1) x y f g;
   may-start = may-start-unique;
   run = runs;
   run-from-zero = λ i. runs (record { machine = zeroMachine; words = i .0; budget = fullBudget; reports = i .1 });
-  exported-run = λ i x y f g. same-filling x y (counts-unique (runOf zeroMachine (i .0) fullBudget (length (i .1))) (i .1) (x .answer) (y .answer) (x .after) (y .after) f g);
   check = check-unique;
   read = λ i x y f g. same-filling x y (read-unique (i .0) (i .1) (x .answer) (y .answer) (x .after) (y .after) f g);
   write = λ i x y f g. same-filling x y (write-unique (i .0) (i .1) (x .answer) (y .answer) (x .after) (y .after) f g);

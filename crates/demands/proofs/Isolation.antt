@@ -22,8 +22,7 @@ use Rattle.machine.specs.declared.Registers.{Registers}
 use Rattle.machine.specs.declared.Machine.{Machine}
 use Rattle.machine.specs.declared.Words.{Words}
 use Rattle.machine.specs.declared.Report.{Report}
-use Rattle.machine.specs.Judgements.{Refuse, Wait}
-use Rattle.machine.specs.Judging.{checksOf, acceptedAs, perform, judgementOf}
+use Rattle.machine.specs.Judging.{Refuse, Wait, checksOf, acceptedAs, perform, judgementOf}
 use Rattle.machine.specs.Settling.{latched}
 use Rattle.machine.specs.Cycles.{Turned, turnOf, cycleOf, completions}
 use Rattle.run.specs.declared.Ran.{Ran}

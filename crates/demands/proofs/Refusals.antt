@@ -18,16 +18,18 @@ use Rattle.isa.specs.declared.Decoded.{Decoded}
 use Rattle.isa.specs.declared.Encoded.{Encoded}
 use Rattle.isa.specs.Words.{namedBy, wordChecks, decodeOf, decodedTells, namedChecks, wordFor, encodeOf, encodedTells}
 use Rattle.isa.proofs.Laws.{decode-unique, encode-unique}
-use Rattle.machine.specs.Judgements.{Judgement, Refuse}
 use Rattle.machine.specs.declared.Waiting.{Waiting}
 use Rattle.machine.specs.declared.Waiting.the-variants.{Nothing, Held}
 use Rattle.machine.specs.declared.Machine.{Machine}
 use Rattle.machine.specs.declared.Words.{Words}
+use Rattle.machine.specs.declared.Core.{Core}
 use Rattle.machine.specs.declared.Turn.{Turn}
+use Rattle.machine.specs.declared.Stepped.{Stepped}
 use Rattle.machine.specs.declared.Answer.{Answer}
 use Rattle.machine.specs.declared.Report.{Report}
-use Rattle.machine.specs.Judging.{checksOf, acceptedAs, judgementOf, mayStart}
+use Rattle.machine.specs.Judging.{Judgement, Refuse, checksOf, acceptedAs, judgementOf, mayStart}
 use Rattle.machine.specs.Settling.{latched}
+use Rattle.machine.specs.Stepping.{machineFrom, coreOf, reportIn}
 use Rattle.machine.specs.Cycles.{Turned, answerTells, refusedTurn, turnOf, cycleOf}
 use Rattle.machine.proofs.Exactly.{begin-numbers, second-numbers, second-four, cycle-number}
 use Rattle.machine.proofs.Laws.{refused-unchanged, cycle-unique}
@@ -39,7 +41,7 @@ use Rattle.run.specs.Courses.{closing, turnThen}
 use Rattle.run.specs.Runs.{endingTells}
 use Rattle.run.proofs.Starting.{may-begin}
 use Rattle.run.specs.Following.{machineAt, turnAt}
-use Rattle.demands.specs.Calls.{Filling, Decodes, Encodes, RunInput, Runs, Cycles, ReadsTrace, WritesTrace}
+use Rattle.demands.specs.Calls.{Filling, Decodes, Encodes, RunInput, Runs, Cycles, ReadsTrace, WritesTrace, StepsMachine}
 use Rattle.demands.specs.Following.{EndsAs}
 use Rattle.trace.specs.declared.Filled.{Filled}
 use Rattle.trace.specs.Layout.{wordsPerRecord}
@@ -218,6 +220,21 @@ one-cycle-refused-exactly m c t p k nonzero = (to, back)
 
     back : refusal (checksOf (m .registers .waiting) c) ≡ k → t .answer ≡ Answer.Refused k
     back e = ap (λ (x : Turn). x .answer) (cycle-unique m c t (record { machine = m; answer = Answer.Refused k }) p (sym (refused-by m c k nonzero e)))
+
+-- one step: its number is the one that its checks give, and a refused step leaves RAM and the other registers
+module _ (ram : List ℕ) (core : Core) (c : Words) (o : Filling Stepped) (p : StepsMachine (ram, core, c) o) where
+  pub step-refused-exactly : o .answer .refusal ≡ refusal (checksOf (core .waiting) c)
+  step-refused-exactly =
+      sym (told-number (o .answer .refusal) (reportIn (o .answer)))
+      ∙ ap (λ (x : Turned). x .answer .number) (p .turn) ∙ cycle-number (machineFrom ram core) c
+
+  pub step-refused-leaves : (o .answer .refusal ≡ 0 → ⊥) → (o .after ≡ ram) × (o .answer .core ≡ core)
+  step-refused-leaves n =
+      let told : cycleOf (machineFrom ram core) c .answer ≡ refused (o .answer .refusal) =
+      sym (ap (λ (x : Turned). x .answer) (p .turn)) ∙ tells-refused (o .answer .refusal) (reportIn (o .answer)) n in
+      let same : machineFrom (o .after) (o .answer .core) ≡ machineFrom ram core =
+      ap (λ (x : Turned). x .machine) (p .turn) ∙ refused-unchanged (machineFrom ram core) c (o .answer .refusal) told in
+      (ap (λ (m : Machine). m .registers .ram) same, ap (λ (m : Machine). coreOf (m .registers)) same)
 
 -- words and named instructions: 7, 8 or 9 exactly when decoding or encoding has that number
 pub decode-refused-exactly : (w : ℕ) (r : Decoded) → Decodes w r → (k : ℕ) → (k ≡ 0 → ⊥) → (r ≡ Decoded.Refused k) ↔ (decodeOf w .number ≡ k)

@@ -26,9 +26,8 @@ use Rattle.machine.specs.declared.Machine.{Machine}
 use Rattle.machine.specs.declared.Words.{Words}
 use Rattle.machine.specs.declared.View.{View}
 use Rattle.machine.specs.declared.Effect.{Effect}
-use Rattle.machine.specs.Judgements.{Refuse, Wait}
 use Rattle.machine.specs.Pins.{ienHigh, dleHigh}
-use Rattle.machine.specs.Judging.{beginChecks, checksOf, acceptedAs, perform, judgementOf}
+use Rattle.machine.specs.Judging.{Refuse, Wait, beginChecks, checksOf, acceptedAs, perform, judgementOf}
 use Rattle.machine.specs.Seeing.{viewOf}
 use Rattle.machine.specs.Acting.{effectOf}
 use Rattle.machine.specs.Settling.{latched, ramAfter, accAfter, settledOf}

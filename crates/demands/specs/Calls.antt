@@ -32,11 +32,10 @@ use Rattle.machine.specs.declared.Turn.{Turn}
 use Rattle.machine.specs.declared.Stepped.{Stepped}
 use Rattle.machine.specs.Judging.{mayStart}
 use Rattle.machine.specs.Cycles.{turnTells, cycleOf}
-use Rattle.machine.specs.Stepping.{coreOf, stateOf, Steps}
+use Rattle.machine.specs.Stepping.{coreOf, machineFrom, Steps}
 use Rattle.run.specs.declared.Ending.{Ending}
 use Rattle.run.specs.declared.Ran.{Ran}
 use Rattle.run.specs.Runs.{runOf, zeroMachine, fullBudget, Gives}
-use Rattle.bench_run.specs.Counting.{Counts}
 use Rattle.trace.specs.declared.Filled.{Filled}
 use Rattle.trace.specs.Check.{checkOf}
 use Rattle.trace.specs.Layout.{wordsPerRecord}
@@ -105,7 +104,7 @@ abbrev pub TakesApart : Registers → Core → Type 0
 TakesApart r k = k ≡ coreOf r
 
 abbrev pub PutsTogether : List ℕ × Core → Machine → Type 0
-PutsTogether i m = m ≡ stateOf (i .0) (i .1)
+PutsTogether i m = m ≡ machineFrom (i .0) (i .1)
 
 abbrev pub MayStart : Waiting → Bool → Type 0
 MayStart w r = r ≡ mayStart w
@@ -122,10 +121,6 @@ Runs i o = Gives (i .machine) (runOf (i .machine) (i .words) (i .budget) (length
 
 abbrev pub RunsFromZero : List ℕ × List ℕ → Filling Ran → Type 0
 RunsFromZero i o = Runs (record { machine = zeroMachine; words = i .0; budget = fullBudget; reports = i .1 }) o
-
--- the run as a C function, alone and beside the check
-abbrev pub RunsCounted : List ℕ × List ℕ → Filling ℕ → Type 0
-RunsCounted i o = Counts (runOf zeroMachine (i .0) fullBudget (length (i .1))) (o .answer) (i .1) (o .after)
 
 -- trace: a trace or cycle words, and the lent output before the call
 abbrev pub Checks : List ℕ → ℕ → Type 0

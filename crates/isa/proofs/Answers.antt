@@ -21,9 +21,9 @@ use Rattle.isa.specs.declared.Lookup.{Lookup}
 use Rattle.isa.specs.Fields.{markOf, fieldA, fieldB, fieldC, modeOf, wordOf}
 use Rattle.isa.specs.Table.{row, rows, rowAt, noRow, numberOf, noRule, never}
 use Rattle.isa.specs.Slots.{takes}
-use Rattle.isa.specs.Words.{ruleChecks, wordNumber, wordRow, wordChecks, namedBy, decodeOf, lookupOf}
-use Rattle.isa.specs.Decision.{RowIs, namedAs, ruleOnly, fillOf}
-use Rattle.isa.proofs.Families.{own-row, row-count}
+use Rattle.isa.specs.Words.{ruleChecks, wordNumber, wordRow, wordChecks, namedBy, decodeOf, lookupOf, namesI, asksI, takesImmediate}
+use Rattle.isa.specs.Decision.{RowIs, SameRow, namedAs, ruleOnly, fillOf}
+use Rattle.isa.proofs.Families.{own-row, own-number}
 
 -- a lookup, by the number of the word's row
 module _ (w i : ℕ) (e : RowIs w i) where
@@ -87,10 +87,44 @@ answer-accepted i mark a b c h z =
     first-clear 7 (leb noRow i) (ruleChecks (rowAt i) mark a b) (instruction i mark a b c) (lt-leb noRow i h)
     ∙ tells-accepted (refusal (ruleChecks (rowAt i) mark a b)) (instruction i mark a b c) z
 
+answer-refused : (i mark a b c : ℕ) → i < noRow → (k : ℕ) → k ≡ refusal (ruleChecks (rowAt i) mark a b) → (k ≡ 0 → ⊥) → answerAt i mark a b c ≡ refused k
+unfolding answerAt
+answer-refused i mark a b c h k e n =
+    first-clear 7 (leb noRow i) (ruleChecks (rowAt i) mark a b) (instruction i mark a b c) (lt-leb noRow i h)
+    ∙ ap (λ (k : ℕ). tells k (instruction i mark a b c)) (sym e)
+    ∙ tells-refused k (instruction i mark a b c) n
+
 -- the decoder's answer, once the row's number is the word's
 pub decoded : (w i : ℕ) → i ≡ wordNumber w → answerAt i (markOf w) (fieldA w) (fieldB w) (fieldC w) ≡ decodeOf w
 unfolding answerAt decodeOf
 decoded w i e = ap (λ (i : ℕ). answerAt i (markOf w) (fieldA w) (fieldB w) (fieldC w)) e
+
+-- whether a word takes an I operand, by the number of the row that takes it
+module _ (w i : ℕ) (s : SameRow w i) where
+  same-row : (i < noRow → i ≡ wordNumber w) × (noRow ≤ i → noRow ≤ wordNumber w)
+  unfolding SameRow
+  same-row = s
+
+  pub immediate-none : noRow ≤ i → false ≡ takesImmediate w
+  unfolding takesImmediate decodeOf
+  immediate-none h =
+      ap (λ (t : Tells Named). namesI (t .value))
+      (sym (first-held 7 (leb noRow (wordNumber w)) (ruleChecks (wordRow w) (markOf w) (fieldA w) (fieldB w)) (namedBy w) (λ e. omega arith)
+      (le-leb noRow (wordNumber w) (same-row .1 h))))
+
+  module _ (h : i < noRow) (k : ℕ) (e : k ≡ refusal (ruleChecks (rowAt i) (markOf w) (fieldA w) (fieldB w))) where
+    pub immediate-refused : (k ≡ 0 → ⊥) → false ≡ takesImmediate w
+    unfolding takesImmediate
+    immediate-refused n =
+        ap (λ (t : Tells Named). namesI (t .value))
+        (sym (answer-refused i (markOf w) (fieldA w) (fieldB w) (fieldC w) h k e n) ∙ decoded w i (same-row .0 h))
+
+    pub immediate-row : k ≡ 0 → asksI (rowAt i) (fieldA w) (fieldB w) ≡ takesImmediate w
+    unfolding takesImmediate
+    immediate-row z =
+        ap (λ (j : ℕ). asksI (rowAt j) (fieldA w) (fieldB w)) (sym (own-number i h))
+        ∙ ap (λ (t : Tells Named). namesI (t .value))
+        (sym (answer-accepted i (markOf w) (fieldA w) (fieldB w) (fieldC w) h (sym e ∙ z)) ∙ decoded w i (same-row .0 h))
 
 module _ (r : Row) (mark a b c : ℕ) (t : Bool) (e : t ≡ takes r mark a b c) where
   abbrev word : ℕ

@@ -5,15 +5,18 @@ use mathlib.Core.List.{List, [], _∷_}
 use Prim.Native.Nat.{ℕ, zero, suc, _+_, _<_, _≤_}
 use native.Mathlib.Nat.{not-suc-le-zero}
 use native.Mathlib.Omega.{arith}
-use lib.Dec.{eqb}
+use lib.Dec.{eqb, leb}
 use lib.ListN.{length, getD}
-use borrow.Author.Tests.{eq-eqb, eqb-true}
+use borrow.Author.Tests.{eq-eqb, eqb-true, eqb-false, leb-true, leb-false}
 use Rattle.choice.specs.Pick.{pick}
 use Rattle.choice.proofs.Spans.{never}
 use Rattle.isa.specs.declared.Row.{Row}
+use Rattle.isa.specs.Fields.{markOf, quadrantOf, fieldA, fieldB, fieldC}
 use Rattle.isa.specs.Sets.{has}
 use Rattle.isa.specs.Table.{rows, rowAt, noRow}
 use Rattle.isa.specs.Slots.{agrees, fits, takes, fitting, withC, rowOf}
+use Rattle.isa.specs.Words.{wordNumber}
+use Rattle.isa.specs.Decision.{SameRow, takesWord}
 use Rattle.isa.proofs.Lists.{any-default}
 use Rattle.isa.proofs.Takes.{in-turn}
 use Rattle.isa.proofs.Disjoint.{one-row}
@@ -121,3 +124,52 @@ module _ (mark q a b c : ℕ) where
       let e : i ≡ 0 + i = omega arith in
       let u = row-belongs (finds 0 rows whole in-table i (t .listed) (subst (λ (i : ℕ). Belongs mark q a b c i) e t)) in
       one-row (rowOf mark q a b c) i mark a b c (u .listed) (t .listed) (u .quadrant ∙ sym (t .quadrant)) (u .fields) (t .fields)
+
+-- the table gone through row by row: no row before i takes the word
+abbrev TakesWord : ℕ → ℕ → Type 0
+TakesWord w i = Belongs (markOf w) (quadrantOf w) (fieldA w) (fieldB w) (fieldC w) i
+
+apart : (i : ℕ) → i < noRow → noRow ≤ i → ⊥
+apart i h l = omega arith
+
+within : (i j k : ℕ) → i < j → j ≤ k → i < k
+within i j k h l = omega arith
+
+pub record Past (w i : ℕ) : Type 0 where
+  pub bound : i ≤ noRow
+  pub none : (j : ℕ) → j < i → TakesWord w j → ⊥
+
+pub past-start : (w : ℕ) → Past w 0
+past-start w = record { bound = omega arith; none = λ j h. absurd (not-suc-le-zero h) }
+
+past-next : (w i : ℕ) → Past w i → i < noRow → (TakesWord w i → ⊥) → Past w (i + 1)
+past-next w i p h n = record { bound = omega arith; none = λ j l t. by-test j l t (eqb j i) refl }
+  where
+    by-test : (j : ℕ) → j < i + 1 → TakesWord w j → (b : Bool) → eqb j i ≡ b → ⊥
+    by-test j l t true q = n (subst (λ (j : ℕ). TakesWord w j) (eqb-true j i q) t)
+    by-test j l t false q = p .none j (omega (arith, eqb-false j i q)) t
+
+-- row i takes the word, which is then its own, or does not
+module _ (w i : ℕ) (p : Past w i) (h : i < noRow) (t : Bool) (e : t ≡ takesWord (rowAt i) w) where
+  pub row-found : t ≡ true → SameRow w i
+  unfolding SameRow
+  row-found f =
+      let u = in-turn (eqb (rowAt i .quadrant) (quadrantOf w)) (takes (rowAt i) (markOf w) (fieldA w) (fieldB w) (fieldC w)) (sym e ∙ f) in
+      let belongs : TakesWord w i = record { listed = h; quadrant = eqb-true (rowAt i .quadrant) (quadrantOf w) (u .0); fields = u .1 } in
+      (λ l. sym (belongs-row (markOf w) (quadrantOf w) (fieldA w) (fieldB w) (fieldC w) i belongs), λ l. absurd (apart i h l))
+
+  pub row-past : t ≡ false → Past w (i + 1)
+  row-past f =
+      past-next w i p h
+      (λ b. never (sym f ∙ e ∙ rw (eq-eqb (rowAt i .quadrant) (quadrantOf w) (b .quadrant), b .fields)))
+
+-- past the last row no row takes the word
+pub row-missed : (w i : ℕ) → Past w i → noRow ≤ i → SameRow w i
+unfolding SameRow
+row-missed w i p h = (λ l. absurd (apart i l h), λ l. by-test (leb noRow (wordNumber w)) refl)
+  where
+    by-test : (b : Bool) → leb noRow (wordNumber w) ≡ b → noRow ≤ wordNumber w
+    by-test true q = leb-true noRow (wordNumber w) q
+    by-test false q =
+        let listed : wordNumber w < noRow = leb-false noRow (wordNumber w) q in
+        absurd (p .none (wordNumber w) (within (wordNumber w) noRow i listed h) (row-belongs (markOf w) (quadrantOf w) (fieldA w) (fieldB w) (fieldC w) listed))

@@ -1,8 +1,8 @@
 -- What the parts of decoder and encoder answer, for their contracts: document 01's rules stand in Table, Slots and Words. The decision over quadrant, A and B answers a slot by the number of its first row.
-use Prim.Native.Nat.{ℕ, _<_}
+use Prim.Native.Nat.{ℕ, _<_, _≤_}
 use mathlib.Core.List.{List, [], _∷_}
 use mathlib.Core.Path.{_≡_}
-use mathlib.Core.Bool.{not}
+use mathlib.Core.Bool.{Bool, false, not}
 use lib.Dec.{eqb, ltb}
 use Rattle.choice.specs.Pick.{pick}
 use Rattle.choice.specs.Checks.{check, refusal}
@@ -11,7 +11,7 @@ use Rattle.isa.specs.declared.Family.{Family}
 use Rattle.isa.specs.declared.Family.the-variants.{Tor1, Bonr, Rotnr}
 use Rattle.isa.specs.declared.Row.{Row}
 use Rattle.isa.specs.declared.Named.{Named}
-use Rattle.isa.specs.Fields.{markOf, fieldA, fieldB, fieldC, modeOf, wordOf}
+use Rattle.isa.specs.Fields.{markOf, quadrantOf, fieldA, fieldB, fieldC, modeOf, wordOf}
 use Rattle.isa.specs.Table.{row, noRow, numberOf}
 use Rattle.isa.specs.Slots.{slotRows, takes}
 use Rattle.isa.specs.Words.{ruleChecks, wordNumber}
@@ -32,9 +32,17 @@ sharing s =
     (pick (eqb s (numberOf Rotnr)) (numberOf Bonr ∷ numberOf Rotnr ∷ []) (s ∷ [])))
     []
 
--- i is the number of a word's row, or noRow
+-- i is the number of a word's row, or noRow. Under a name, so that no proof opens the search for the row
 unfoldable pub RowIs : ℕ → ℕ → Type 0
 RowIs w i = i ≡ wordNumber w
+
+-- a row takes a word: it is of the word's quadrant and has its mode and fields
+abbrev pub takesWord : Row → ℕ → Bool
+takesWord r w = pick (eqb (r .quadrant) (quadrantOf w)) (takes r (markOf w) (fieldA w) (fieldB w) (fieldC w)) false
+
+-- i is the number of a word's row, or neither is a row's number
+unfoldable pub SameRow : ℕ → ℕ → Type 0
+SameRow w i = (i < noRow → i ≡ wordNumber w) × (noRow ≤ i → noRow ≤ wordNumber w)
 
 -- the instruction of a family that has a word's fields
 abbrev pub namedAs : Family → ℕ → Named

@@ -51,7 +51,8 @@ namedBy w = record { family = wordRow w .family; mode = modeOf (markOf w); a = f
 unfoldable pub decodeOf : ℕ → Tells Named
 decodeOf w = tells (refusal (wordChecks w)) (namedBy w)
 
--- the same as one flat answer: the number of the refusal, or 0, and the instruction that the word's row and fields name
+-- a flat answer: the number of the refusal, or 0, and the instruction that the word's row and fields name. Of a refused word the number alone
+-- means something
 unfoldable pub lookupOf : ℕ → Lookup
 lookupOf w = record { refusal = refusal (wordChecks w); named = namedBy w }
 

@@ -1,13 +1,43 @@
-// What a row says of mode and fields.
+// The fields of a word, and what a row says of mode and fields.
 use crate::Row;
 use alu::Mode;
 ghost use mathlib.Core.Path.{_≡_};
 ghost use Rattle.choice.specs.Checks.{refusal};
 ghost use Rattle.isa.specs.Sets.{has};
-ghost use Rattle.isa.specs.Fields.{modeOf, markFor};
+ghost use Rattle.isa.specs.Fields.{markOf, quadrantOf, fieldA, fieldB, fieldC, modeOf, markFor};
 ghost use Rattle.isa.specs.Slots.{agrees, takes};
 ghost use Rattle.isa.specs.Words.{ruleChecks, asksI};
 ghost use Rattle.isa.specs.Decision.{ruleOnly};
+
+pub(crate) fn mark_of(word: u16) -> u8
+    ensures { λ r. ⌜ r ≡ markOf word ⌝ }
+{
+    (word / 0x8000) as u8
+}
+
+pub(crate) fn quadrant_of(word: u16) -> u8
+    ensures { λ r. ⌜ r ≡ quadrantOf word ⌝ }
+{
+    (word / 0x2000 % 4) as u8
+}
+
+pub(crate) fn field_a(word: u16) -> u8
+    ensures { λ r. ⌜ r ≡ fieldA word ⌝ }
+{
+    (word / 0x200 % 16) as u8
+}
+
+pub(crate) fn field_b(word: u16) -> u8
+    ensures { λ r. ⌜ r ≡ fieldB word ⌝ }
+{
+    (word / 0x20 % 16) as u8
+}
+
+pub(crate) fn field_c(word: u16) -> u8
+    ensures { λ r. ⌜ r ≡ fieldC word ⌝ }
+{
+    (word % 32) as u8
+}
 
 pub(crate) fn mode_of(mark: u8) -> Mode
     ensures { λ r. ⌜ r ≡ modeOf mark ⌝ }

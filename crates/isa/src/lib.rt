@@ -11,8 +11,8 @@ ghost use Prim.Native.Nat.{_<_};
 ghost use Rattle.choice.specs.Checks.{refusal};
 ghost use Rattle.isa.specs.Fields.{markOf, fieldA, fieldB};
 ghost use Rattle.isa.specs.Table.{rowAt, noRow};
-ghost use Rattle.isa.specs.Words.{ruleChecks, decodeOf, lookupOf, decodedTells, encodeOf, encodedTells, takesImmediate, asksI, namedRow};
-ghost use Rattle.isa.specs.Decision.{RowIs, namedAs, Narrow, fillOf};
+ghost use Rattle.isa.specs.Words.{ruleChecks, decodeOf, lookupOf, decodedTells, encodeOf, encodedTells, takesImmediate};
+ghost use Rattle.isa.specs.Decision.{RowIs, SameRow, takesWord, namedAs, Narrow, fillOf};
 
 // The families of the data sheet's summary of mnemonics, in the order of document 01's list.
 pub enum Family {
@@ -68,8 +68,8 @@ pub struct Named {
     pub c: u8,
 }
 
-// What a word says: the number of its refusal, or 0, and the instruction that its row and fields name. An unlisted word has no row, and the
-// blank row's family. Plain fields, because those stay in the processor's registers where an enum goes through memory.
+// What a word says: the number of its refusal, or 0, and the instruction that its row and fields name, which means nothing where the word is
+// refused. Plain fields, because those stay in the processor's registers where an enum goes through memory.
 pub struct Lookup {
     pub refusal: u8,
     pub named: Named,
@@ -87,43 +87,46 @@ pub enum Encoded {
     Refused(u8),
 }
 
-// The number of the row that a word belongs to, or `number::NONE`.
+// The number of the row that a word belongs to, or `number::NONE`: by the decision.
 fn row_number(word: u16) -> u8
     ensures { λ r. ⌜ RowIs word r ⌝ }
 {
-    let mark = (word / 0x8000) as u8;
-    let quadrant = (word / 0x2000 % 4) as u8;
-    let a = (word / 0x200 % 16) as u8;
-    let b = (word / 0x20 % 16) as u8;
-    let c = (word % 32) as u8;
-    slots::row_of(mark, quadrant, a, b, c)
+    slots::row_of(
+        fields::mark_of(word),
+        fields::quadrant_of(word),
+        fields::field_a(word),
+        fields::field_b(word),
+        fields::field_c(word),
+    )
 }
 
 // The instruction of a family that has a word's fields.
 fn named_as(family: Family, word: u16) -> Named
     ensures { λ r. ⌜ r ≡ namedAs family word ⌝ }
 {
-    let mode = fields::mode_of((word / 0x8000) as u8);
+    let mode = fields::mode_of(fields::mark_of(word));
     Named {
         family: family,
         mode: mode,
-        a: (word / 0x200 % 16) as u8,
-        b: (word / 0x20 % 16) as u8,
-        c: (word % 32) as u8,
+        a: fields::field_a(word),
+        b: fields::field_b(word),
+        c: fields::field_c(word),
     }
 }
 
-// What a word's row refuses it with, by the row's number: 8, 9, or 0 for nothing.
+// What the row of a number refuses a word with: 8, 9, or 0 for nothing. Without such a row nothing is promised.
 fn row_refusal(number: u8, word: u16) -> u8
     ensures { λ r. ⌜ (number < noRow → r ≡ refusal (ruleChecks (rowAt number) (markOf word) (fieldA word) (fieldB word))) ⌝ }
 {
-    let mark = (word / 0x8000) as u8;
-    let a = (word / 0x200 % 16) as u8;
-    let b = (word / 0x20 % 16) as u8;
-    fields::rule_refusal(table::rule_at(number), mark, a, b)
+    fields::rule_refusal(
+        table::rule_at(number),
+        fields::mark_of(word),
+        fields::field_a(word),
+        fields::field_b(word),
+    )
 }
 
-// The refusal of a word, or 0, and its instruction, by number and not by the table: a run looks up a word in every cycle.
+// The refusal of a word, or 0, and its instruction. An unlisted word has the blank row's family, which means nothing.
 pub fn look_up(word: u16) -> Lookup
     ensures { λ r. ⌜ r ≡ lookupOf word ⌝ }
 {
@@ -185,22 +188,50 @@ pub fn encode(named: Named) -> Encoded
     fill(row, mark, named.a, named.b, named.c)
 }
 
-// Whether an instruction has an I operand.
-fn has_immediate(named: Named) -> bool
-    ensures { λ r. ⌜ r ≡ asksI (namedRow named) (named .a) (named .b) ⌝ }
+// Whether a row takes a word.
+fn takes_word(row: Row, word: u16) -> bool
+    ensures { λ r. ⌜ r ≡ takesWord row word ⌝ }
 {
-    let family = named.family;
-    let number = table::number_of(family);
-    let row = table::row_at(number as usize);
-    fields::asks_immediate(row, named.a, named.b)
+    if row.quadrant == fields::quadrant_of(word) {
+        fields::taking(
+            row,
+            fields::mark_of(word),
+            fields::field_a(word),
+            fields::field_b(word),
+            fields::field_c(word),
+        )
+    } else {
+        false
+    }
+}
+
+// The number of the row that takes a word, or `number::NONE`: by the table itself, row by row. What runs cycles looks words up in one place
+// alone, because the compiler makes a part of the cycle only of what is called once.
+fn row_in_table(word: u16) -> usize
+    ensures { λ r. ⌜ SameRow word r ⌝ }
+{
+    let mut i: usize = 0;
+    while i < number::NONE as usize {
+        if takes_word(table::row_at(i), word) {
+            return i;
+        }
+        i = i + 1;
+    }
+    i
 }
 
 // Whether a word is accepted and its instruction has an I operand, so that it takes two cycles.
 pub fn takes_immediate(word: u16) -> bool
     ensures { λ r. ⌜ r ≡ takesImmediate word ⌝ }
 {
-    match decode(word) {
-        Decoded::Accepted(named) => has_immediate(named),
-        Decoded::Refused(_) => false,
+    let number = row_in_table(word);
+    if number < number::NONE as usize {
+        let row = table::row_at(number);
+        let a = fields::field_a(word);
+        let b = fields::field_b(word);
+        if fields::rule_refusal(row.rule, fields::mark_of(word), a, b) == 0 {
+            return fields::asks_immediate(row, a, b);
+        }
     }
+    false
 }

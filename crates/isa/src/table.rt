@@ -1,4 +1,5 @@
-// The instruction list of document 01 as a table, which the decoder and the encoder go by.
+// The instruction list of document 01 as a table. The encoder and `takes_immediate` read its rows; the decoder answers a row by its number, and
+// takes the family and the rule from two of its columns.
 use crate::Family;
 use crate::Row;
 use crate::number;
@@ -6,7 +7,7 @@ ghost use mathlib.Core.Path.{_≡_};
 ghost use Prim.Native.Nat.{_<_};
 ghost use lib.Dec.{eqb};
 ghost use Rattle.choice.specs.Along.{Along};
-ghost use Rattle.isa.specs.Table.{rowAt, numberOf};
+ghost use Rattle.isa.specs.Table.{rowAt, noRow, numberOf};
 
 // Sets of modes, of places n and of RAM addresses.
 const BYTE: u8 = 0x1;
@@ -335,9 +336,10 @@ pub(crate) fn row_at(number: usize) -> Row
     ROWS[number]
 }
 
-// The family of a number, and below its rule: what decoding needs of a row, without the table.
+// The column of families, as a match: a constant array is copied at each use, and a run looks up a word in every cycle. Of a number below
+// `number::NONE` the contract says that it is the family's own.
 pub(crate) fn family_at(number: u8) -> Family
-    ensures { λ r. ⌜ Along eqb 27 (λ k. k) number (numberOf r) ⌝ }
+    ensures { λ r. ⌜ Along eqb noRow (λ k. k) number (numberOf r) ⌝ }
 {
     match number {
         number::TOR1 => Family::Tor1,
@@ -370,8 +372,9 @@ pub(crate) fn family_at(number: u8) -> Family
     }
 }
 
+// The column of rules, likewise.
 pub(crate) fn rule_at(number: u8) -> u8
-    ensures { λ r. ⌜ Along eqb 27 (λ k. rowAt k .rule) number r ⌝ }
+    ensures { λ r. ⌜ Along eqb noRow (λ k. rowAt k .rule) number r ⌝ }
 {
     match number {
         number::BOR2 => BIT_IN_MODE,

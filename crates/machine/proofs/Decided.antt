@@ -22,34 +22,33 @@ use Rattle.plan.proofs.Laws.{word-immediate}
 use Rattle.machine.specs.declared.Waiting.{Waiting}
 use Rattle.machine.specs.declared.Waiting.the-variants.{Nothing, Held}
 use Rattle.machine.specs.declared.Words.{Words}
-use Rattle.machine.specs.declared.Judged.{Judged}
-use Rattle.machine.specs.Judgements.{Judgement, Refuse, Wait, Perform}
+use Rattle.machine.specs.declared.Verdict.{Verdict}
 use Rattle.machine.specs.Pins.{ienHigh}
-use Rattle.machine.specs.Judging.{pinChecks, checksOf, judgementOf}
-use Rattle.machine.specs.Deciding.{wordAbout, immediateIn, onlyBegins, beginBy, cycleBy, judgedOf, judgementIn}
+use Rattle.machine.specs.Judging.{Judgement, Refuse, Wait, Perform, pinChecks, checksOf, judgementOf, judged, wordAbout}
+use Rattle.machine.specs.Deciding.{immediateIn, onlyBegins, beginBy, cycleBy, verdictOf}
 
 -- a cycle with nothing waiting: the pins, then the word's own number, then IEN
-module _ (wrong : ℕ) (asks : Bool) (pins bad : ℕ) (e : bad ≡ refusal (pinChecks pins [])) where
+module _ (word : ℕ) (asks : Bool) (pins number : ℕ) (e : number ≡ refusal (pinChecks pins [])) where
   abbrev late : List Check
   late = check 10 (pick asks (ienHigh pins) false) ∷ []
 
   abbrev rest : List Check
-  rest = check wrong (not (eqb wrong 0)) ∷ late
+  rest = check word (not (eqb word 0)) ∷ late
 
-  pub begin-pins : (bad ≡ 0 → ⊥) → bad ≡ beginBy wrong asks pins
+  pub begin-pins : (number ≡ 0 → ⊥) → number ≡ beginBy word asks pins
   begin-pins n = e ∙ sym (ahead (pinChecks pins []) rest (λ z. n (e ∙ z)))
 
-  past-pins : bad ≡ 0 → beginBy wrong asks pins ≡ refusal rest
+  past-pins : number ≡ 0 → beginBy word asks pins ≡ refusal rest
   past-pins z = behind (pinChecks pins []) rest tt (sym e ∙ z)
 
-  pub begin-word : bad ≡ 0 → (wrong ≡ 0 → ⊥) → wrong ≡ beginBy wrong asks pins
-  begin-word z n = sym (past-pins z ∙ held wrong (not (eqb wrong 0)) late (ap not (ne-eqb wrong 0 n)))
+  pub begin-word : number ≡ 0 → (word ≡ 0 → ⊥) → word ≡ beginBy word asks pins
+  begin-word z n = sym (past-pins z ∙ held word (not (eqb word 0)) late (ap not (ne-eqb word 0 n)))
 
   -- the number of the last check, once its condition is known
-  pub begin-late : bad ≡ 0 → wrong ≡ 0 → (b : Bool) → pick asks (ienHigh pins) false ≡ b → refusal (check 10 b ∷ []) ≡ beginBy wrong asks pins
+  pub begin-late : number ≡ 0 → word ≡ 0 → (b : Bool) → pick asks (ienHigh pins) false ≡ b → refusal (check 10 b ∷ []) ≡ beginBy word asks pins
   begin-late z y b q =
       ap (λ (b : Bool). refusal (check 10 b ∷ [])) (sym q)
-      ∙ sym (past-pins z ∙ passed wrong (not (eqb wrong 0)) late (ap not (eq-eqb wrong 0 y)))
+      ∙ sym (past-pins z ∙ passed word (not (eqb word 0)) late (ap not (eq-eqb word 0 y)))
 
 -- a word, what was found of it, and its plan: it asks for an I operand if it is not refused and the plan names one
 module _ (w : ℕ) (h : w < 0x10000) (l : Lookup) (e : l ≡ lookupOf w) (p : Plan) (f : p ≡ planOf (l .named)) where
@@ -75,7 +74,7 @@ checks-right Nothing c wrong asks e a =
     ap (λ (i : ℕ). cycleBy Nothing i asks (c .pins)) e ∙ ap (λ (b : Bool). cycleBy Nothing (decodeOf (c .lines) .number) b (c .pins)) a
 checks-right (Held w) c wrong asks e a = ap (λ (b : Bool). cycleBy (Held w) wrong b (c .pins)) a
 
--- the flat judgement, by its parts
+-- the verdict, by its parts
 module _ (x : Waiting) (c : Words) (w : ℕ) (h : w < 0x10000) (v : w ≡ wordAbout x (c .lines)) (l : Lookup) (e : l ≡ lookupOf w) (p : Plan) (f : p ≡ planOf (l .named))
     (asks : Bool) (a : asks ≡ pick (eqb (l .refusal) 0) (namesI (p .work)) false) where
   asked : asks ≡ takesImmediate (wordAbout x (c .lines))
@@ -87,8 +86,8 @@ module _ (x : Waiting) (c : Words) (w : ℕ) (h : w < 0x10000) (v : w ≡ wordAb
 
   pub judge-right : (number : ℕ) → number ≡ cycleBy x (l .refusal) asks (c .pins) → (begins : Bool) → begins ≡ onlyBegins x asks
       → (immediate : ℕ) → immediate ≡ immediateIn x (c .lines)
-      → record { refusal = number; begins = begins; named = l .named; plan = p; immediate = immediate } ≡ judgedOf x c
-  unfolding judgedOf
+      → record { refusal = number; begins = begins; named = l .named; plan = p; immediate = immediate } ≡ verdictOf x c
+  unfolding verdictOf
   judge-right number r begins s immediate t =
       let wrong : l .refusal ≡ decodeOf (wordAbout x (c .lines)) .number = ap (λ (l : Lookup). l .refusal) e ∙ wrong-right w ∙ ap (λ (w : ℕ). decodeOf w .number) v in
       let numbered = r ∙ checks-right x c (l .refusal) asks wrong asked in
@@ -96,22 +95,26 @@ module _ (x : Waiting) (c : Words) (w : ℕ) (h : w < 0x10000) (v : w ≡ wordAb
       let begun : begins ≡ onlyBegins x (takesImmediate (wordAbout x (c .lines))) = s ∙ ap (onlyBegins x) asked in
       rw (numbered, begun, planned, named, t)
 
--- a flat judgement is the definition's
-pub judgement-flat : (x : Waiting) (c : Words) → judgementOf x c ≡ judgementIn (judgedOf x c)
-unfolding judgementOf judgedOf
+-- the judgement that a verdict's fields are
+abbrev pub judgementIn : Verdict → Judgement
+judgementIn v = judged (v .refusal) (pick (v .begins) Wait (Perform (v .named) (v .plan) (v .immediate)))
+
+-- a verdict is the definition's judgement
+pub judgement-flat : (x : Waiting) (c : Words) → judgementOf x c ≡ judgementIn (verdictOf x c)
+unfolding judgementOf verdictOf
 judgement-flat Nothing c = refl
 judgement-flat (Held w) c = refl
 
 -- and what it is, once its fields are known
-module _ (j : Judged) where
-  pub in-refused : (j .refusal ≡ 0 → ⊥) → judgementIn j ≡ Refuse (j .refusal)
-  in-refused n = unpicked (eqb (j .refusal) 0) (pick (j .begins) Wait (Perform (j .named) (j .plan) (j .immediate))) (Refuse (j .refusal)) (ne-eqb (j .refusal) 0 n)
+module _ (v : Verdict) where
+  pub in-refused : (v .refusal ≡ 0 → ⊥) → judgementIn v ≡ Refuse (v .refusal)
+  in-refused n = unpicked (eqb (v .refusal) 0) (pick (v .begins) Wait (Perform (v .named) (v .plan) (v .immediate))) (Refuse (v .refusal)) (ne-eqb (v .refusal) 0 n)
 
-  good : j .refusal ≡ 0 → judgementIn j ≡ pick (j .begins) Wait (Perform (j .named) (j .plan) (j .immediate))
-  good z = picked (eqb (j .refusal) 0) (pick (j .begins) Wait (Perform (j .named) (j .plan) (j .immediate))) (Refuse (j .refusal)) (eq-eqb (j .refusal) 0 z)
+  good : v .refusal ≡ 0 → judgementIn v ≡ pick (v .begins) Wait (Perform (v .named) (v .plan) (v .immediate))
+  good z = picked (eqb (v .refusal) 0) (pick (v .begins) Wait (Perform (v .named) (v .plan) (v .immediate))) (Refuse (v .refusal)) (eq-eqb (v .refusal) 0 z)
 
-  pub in-waiting : j .refusal ≡ 0 → j .begins ≡ true → judgementIn j ≡ Wait
-  in-waiting z b = good z ∙ picked (j .begins) Wait (Perform (j .named) (j .plan) (j .immediate)) b
+  pub in-waiting : v .refusal ≡ 0 → v .begins ≡ true → judgementIn v ≡ Wait
+  in-waiting z b = good z ∙ picked (v .begins) Wait (Perform (v .named) (v .plan) (v .immediate)) b
 
-  pub in-performed : j .refusal ≡ 0 → j .begins ≡ false → judgementIn j ≡ Perform (j .named) (j .plan) (j .immediate)
-  in-performed z b = good z ∙ unpicked (j .begins) Wait (Perform (j .named) (j .plan) (j .immediate)) b
+  pub in-performed : v .refusal ≡ 0 → v .begins ≡ false → judgementIn v ≡ Perform (v .named) (v .plan) (v .immediate)
+  in-performed z b = good z ∙ unpicked (v .begins) Wait (Perform (v .named) (v .plan) (v .immediate)) b

@@ -19,9 +19,8 @@ use Rattle.machine.specs.declared.Waiting.the-variants.{Nothing, Held}
 use Rattle.machine.specs.declared.Registers.{Registers}
 use Rattle.machine.specs.declared.Machine.{Machine}
 use Rattle.machine.specs.declared.Words.{Words}
-use Rattle.machine.specs.Judgements.{Judgement, Refuse, Wait}
 use Rattle.machine.specs.Pins.{ienHigh, strayPin, busClash}
-use Rattle.machine.specs.Judging.{beginChecks, secondChecks, checksOf, acceptedAs, judged, perform, judgementOf}
+use Rattle.machine.specs.Judging.{Judgement, Refuse, Wait, beginChecks, secondChecks, checksOf, acceptedAs, judged, perform, judgementOf}
 use Rattle.machine.specs.Settling.{latched}
 use Rattle.machine.specs.Cycles.{turnOf, cycleOf}
 

@@ -18,9 +18,8 @@ use Rattle.machine.specs.declared.Report.{Report}
 use Rattle.machine.specs.declared.Answer.{Answer}
 use Rattle.machine.specs.declared.Turn.{Turn}
 use Rattle.machine.specs.declared.Effect.{Effect}
-use Rattle.machine.specs.Judgements.{Judgement, Refuse, Wait, Perform}
 use Rattle.machine.specs.Pins.{ienHigh, bothLow}
-use Rattle.machine.specs.Judging.{judgementOf, mayStart}
+use Rattle.machine.specs.Judging.{Judgement, Refuse, Wait, Perform, judgementOf, mayStart}
 use Rattle.machine.specs.Settling.{latched, withWaiting, ramAfter, accAfter, settledOf}
 use Rattle.machine.specs.Cycles.{Turned, machineOf, turnOf, cycleOf, answerTells, turnTells, completions}
 

@@ -1,5 +1,5 @@
 -- The operands as the code takes them, by their places in a list, and the operation of a task that computes.
-use mathlib.Core.Path.{_≡_, refl, _∙_, ap}
+use mathlib.Core.Path.{_≡_, refl}
 use mathlib.Core.List.{List, [], _∷_}
 use Prim.Native.Nat.{ℕ}
 use lib.ListN.{getD}
@@ -14,11 +14,11 @@ use Rattle.plan.specs.declared.Task.the-variants.{NoOperation, TwoOperand, OneO
 use Rattle.plan.specs.declared.Source.{Source}
 use Rattle.plan.specs.declared.Source.the-variants.{Zero, Ram, Acc, Latch, Immediate, LatchZeroExtended, LatchSignExtended}
 use Rattle.machine.specs.declared.View.{View}
-use Rattle.machine.specs.Seeing.{operandOf, sourcesOf, placeOf}
+use Rattle.machine.specs.Seeing.{operandOf}
 use Rattle.machine.specs.Acting.{outcomeFor}
-use Rattle.machine.specs.Stepping.{operationOf}
+use Rattle.machine.specs.Stepping.{sourcesOf, placeOf, operationOf}
 
-source-at : (s : Source) (v : View) → getD (sourcesOf v) (placeOf s) 0 ≡ operandOf s v
+pub source-at : (s : Source) (v : View) → getD (sourcesOf v) (placeOf s) 0 ≡ operandOf s v
 source-at Zero v = refl
 source-at Ram v = refl
 source-at Acc v = refl
@@ -26,9 +26,6 @@ source-at Latch v = refl
 source-at Immediate v = refl
 source-at LatchZeroExtended v = refl
 source-at LatchSignExtended v = refl
-
-pub taken : (v : View) (all : List ℕ) → all ≡ sourcesOf v → (s : Source) (x : ℕ) → x ≡ getD all (placeOf s) 0 → x ≡ operandOf s v
-taken v all e s x f = f ∙ ap (λ (l : List ℕ). getD l (placeOf s) 0) e ∙ source-at s v
 
 -- a task that is none of the status computes: the outcome is its operation's
 abbrev computing : List ℕ

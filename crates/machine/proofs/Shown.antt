@@ -29,9 +29,8 @@ use Rattle.machine.specs.declared.Machine.{Machine}
 use Rattle.machine.specs.declared.Words.{Words}
 use Rattle.machine.specs.declared.View.{View}
 use Rattle.machine.specs.declared.Report.{Report}
-use Rattle.machine.specs.Judgements.{Judgement, Refuse, Wait}
 use Rattle.machine.specs.Pins.{oeYHigh}
-use Rattle.machine.specs.Judging.{checksOf, acceptedAs, judged, perform, judgementOf}
+use Rattle.machine.specs.Judging.{Judgement, Refuse, Wait, checksOf, acceptedAs, judged, perform, judgementOf}
 use Rattle.machine.specs.Seeing.{viewOf}
 use Rattle.machine.specs.Acting.{widthMask, outcomeFor, effectOf}
 use Rattle.machine.specs.Settling.{latched}

@@ -32,9 +32,8 @@ use Rattle.machine.specs.declared.View.{View}
 use Rattle.machine.specs.declared.Effect.{Effect}
 use Rattle.machine.specs.declared.Completed.the-variants.{Instruction}
 use Rattle.machine.specs.declared.Report.{Report}
-use Rattle.machine.specs.Judgements.{Refuse}
 use Rattle.machine.specs.Pins.{ienHigh, bothLow}
-use Rattle.machine.specs.Judging.{checksOf, judged, perform, judgementOf}
+use Rattle.machine.specs.Judging.{Refuse, checksOf, judged, perform, judgementOf}
 use Rattle.machine.specs.Seeing.{viewOf, operandOf}
 use Rattle.machine.specs.Acting.{statusFor, outcomeFor, effectOf}
 use Rattle.machine.specs.Settling.{latched, ramAfter, accAfter, settledOf}

@@ -20,21 +20,22 @@ use Rattle.machine.specs.declared.Core.{Core}
 use Rattle.machine.specs.declared.Registers.{Registers}
 use Rattle.machine.specs.declared.Machine.{Machine}
 use Rattle.machine.specs.declared.Words.{Words}
-use Rattle.machine.specs.declared.Judged.{Judged}
+use Rattle.machine.specs.declared.Verdict.{Verdict}
 use Rattle.machine.specs.declared.Stepped.{Stepped}
 use Rattle.machine.specs.declared.Completed.{Completed}
 use Rattle.machine.specs.declared.Completed.the-variants.{NoInstruction, Instruction}
 use Rattle.machine.specs.declared.Effect.{Effect}
 use Rattle.machine.specs.declared.Report.{Report}
-use Rattle.machine.specs.Judgements.{Judgement, Refuse, Wait, Perform}
-use Rattle.machine.specs.Pins.{ienHigh}
+use Rattle.machine.specs.Judging.{Judgement, Refuse, Wait, Perform, wordAbout}
+use Rattle.machine.specs.Pins.{ienHigh, oeYHigh}
 use Rattle.machine.specs.Seeing.{viewOf}
 use Rattle.machine.specs.Acting.{effectOf}
 use Rattle.machine.specs.Settling.{latched, ramAfter, settledOf}
-use Rattle.machine.specs.Deciding.{wordAbout, judgedOf, judgementIn}
+use Rattle.machine.specs.Deciding.{verdictOf}
+use Rattle.machine.specs.Reporting.{ctOf, tOf}
 use Rattle.machine.specs.Cycles.{Turned, performedTurn, turnOf, cycleOf}
-use Rattle.machine.specs.Stepping.{registersOf, stateOf, coreOf, reportIn, stepTells, refusedStep, Steps, latchedCore, seenOf, wordAfter, writtenWord, settledCore, waitingStep, performedStep, Performs}
-use Rattle.machine.proofs.Decided.{judgement-flat, in-refused, in-waiting, in-performed}
+use Rattle.machine.specs.Stepping.{registersOf, machineFrom, coreOf, reportIn, stepTells, refusedStep, Steps, latchedCore, seenOf, wordAfter, settledWord, settledRam, settledCore, waitingStep, Performed}
+use Rattle.machine.proofs.Decided.{judgementIn, judgement-flat, in-refused, in-waiting, in-performed}
 
 -- a word put where it stands changes nothing
 set-same : (l : List ℕ) (i : ℕ) → set l i (getD l i 0) ≡ l
@@ -51,31 +52,38 @@ ram-written ToRam mode k y ram = refl
 ram-written ToStatus mode k y ram = set-same ram (k % 32)
 ram-written ToAccAndStatus mode k y ram = set-same ram (k % 32)
 
-ram-settled : (i : Bool) (d : Destination) (mode : Mode) (k y : ℕ) (ram : List ℕ)
+ram-picked : (i : Bool) (d : Destination) (mode : Mode) (k y : ℕ) (ram : List ℕ)
     → set ram (k % 32) (pick i (getD ram (k % 32) 0) (wordAfter d mode y (getD ram (k % 32) 0))) ≡ pick i ram (ramAfter d mode k y ram)
-ram-settled true d mode k y ram = set-same ram (k % 32)
-ram-settled false d mode k y ram = ram-written d mode k y ram
+ram-picked true d mode k y ram = set-same ram (k % 32)
+ram-picked false d mode k y ram = ram-written d mode k y ram
 
--- an instruction
-pub performed-right : (n : Named) (p : Plan) (ram : List ℕ) (k : Core) (immediate pins : ℕ)
-    → let e : Effect = effectOf p (seenOf (p .mode) (getD ram (p .register % 32) 0) k immediate) in
-    Performs ram n p k immediate pins (performedStep n p k (settledCore (p .mode) k e pins) e pins)
-    (set ram (p .register % 32) (writtenWord (p .mode) e (getD ram (p .register % 32) 0) pins))
+pub ram-settled : (mode : Mode) (k : ℕ) (ram : List ℕ) (e : Effect) (pins : ℕ)
+    → set ram (k % 32) (settledWord mode e (getD ram (k % 32) 0) pins) ≡ settledRam mode k ram e pins
+ram-settled mode k ram e pins = ram-picked (ienHigh pins) (e .destination) mode k (e .result) ram
+
+-- an instruction's step, by the core after it
+abbrev performedStep : Named → Plan → Core → Core → Effect → ℕ → Stepped
+performedStep n p before after e pins = record {
+  core = after;
+  refusal = 0;
+  y = pick (oeYHigh pins) 0 (e .shown);
+  mask = pick (oeYHigh pins) 0 (e .mask);
+  ct = ctOf (p .work .chooser) (before .status) pins;
+  t = tOf (after .status) pins;
+  begins = false;
+  named = n;
+}
+
+pub performed-right : (n : Named) (p : Plan) (ram : List ℕ) (core : Core) (immediate pins : ℕ)
+    → let e : Effect = effectOf p (seenOf (p .mode) (getD ram (p .register % 32) 0) core immediate) in
+    Performed ram n p core immediate pins (performedStep n p core (settledCore (p .mode) core e pins) e pins) (settledRam (p .mode) (p .register) ram e pins)
 unfolding viewOf settledOf
-performed-right n p ram k immediate pins =
-    let e : Effect = effectOf p (seenOf (p .mode) (getD ram (p .register % 32) 0) k immediate) in
-    record {
-      turn =
-          ap (λ (l : List ℕ). stepTells l (performedStep n p k (settledCore (p .mode) k e pins) e pins))
-          (ram-settled (ienHigh pins) (e .destination) (p .mode) (p .register) (e .result) ram);
-      named = refl;
-      accepted = refl;
-    }
+performed-right n p ram core immediate pins = record { turn = refl; named = refl; accepted = refl }
 
 -- a step, by its judgement
-module _ (ram : List ℕ) (k : Core) (c : Words) (j : Judged) (e : j ≡ judgedOf (k .waiting) c) where
+module _ (ram : List ℕ) (k : Core) (c : Words) (j : Verdict) (e : j ≡ verdictOf (k .waiting) c) where
   abbrev m : Machine
-  m = stateOf ram k
+  m = machineFrom ram k
 
   turn-by : (x : Judgement) → judgementIn j ≡ x → turnOf x m (latched (m .registers) (c .input) (c .pins)) c ≡ cycleOf m c
   unfolding cycleOf
@@ -84,8 +92,8 @@ module _ (ram : List ℕ) (k : Core) (c : Words) (j : Judged) (e : j ≡ judgedO
       (sym q ∙ ap judgementIn e ∙ sym (judgement-flat (k .waiting) c))
 
   named-by : j .named ≡ namedBy (wordAbout (k .waiting) (c .lines))
-  unfolding judgedOf
-  named-by = ap (λ (j : Judged). j .named) e
+  unfolding verdictOf
+  named-by = ap (λ (j : Verdict). j .named) e
 
   -- an accepted step is not a refused one
   shown : (s : Stepped) → s .refusal ≡ 0 → (s .refusal ≡ 0 → ⊥) → s ≡ refusedStep (s .named) k (s .refusal)
@@ -109,7 +117,7 @@ module _ (ram : List ℕ) (k : Core) (c : Words) (j : Judged) (e : j ≡ judgedO
       blank = shown s (ap (λ (s : Stepped). s .refusal) f);
     }
 
-    pub performs-last : j .begins ≡ false → (s : Stepped) (after : List ℕ) → Performs ram (j .named) (j .plan) b (j .immediate) (c .pins) s after → Steps ram k c s after
+    pub performs-last : j .begins ≡ false → (s : Stepped) (after : List ℕ) → Performed ram (j .named) (j .plan) b (j .immediate) (c .pins) s after → Steps ram k c s after
     performs-last t s after p = record {
       turn =
           p .turn ∙ ap (λ (b : Core). performedTurn (j .named) (j .plan) (registersOf ram b) (j .immediate) (c .pins)) g
@@ -157,7 +165,7 @@ module _ (ram : List ℕ) (k : Core) (c : Words) (s t : Stepped) (x y : List ℕ
   accepted-same : s .refusal ≡ 0 → s ≡ t
   accepted-same z =
       let reports : reportIn s ≡ reportIn t = accepted-one (reportIn s) (reportIn t)
-          (sym (tells-accepted (s .refusal) (reportIn s) z) ∙ answers ∙ tells-accepted (t .refusal) (reportIn t) (sym numbers ∙ z)) in
+      (sym (tells-accepted (s .refusal) (reportIn s) z) ∙ answers ∙ tells-accepted (t .refusal) (reportIn t) (sym numbers ∙ z)) in
       sym (made-back s) ∙ same-made (ap (λ (u : Turned). coreOf (u .machine .registers)) turns) numbers reports names ∙ made-back t
 
   refused-same : (s .refusal ≡ 0 → ⊥) → s ≡ t
@@ -176,5 +184,5 @@ module _ (ram : List ℕ) (k : Core) (c : Words) (s t : Stepped) (x y : List ℕ
 pub core-of-unique : (r : Registers) (k l : Core) → k ≡ coreOf r → l ≡ coreOf r → k ≡ l
 core-of-unique r k l p q = p ∙ sym q
 
-pub machine-of-unique : (ram : List ℕ) (k : Core) (m n : Machine) → m ≡ stateOf ram k → n ≡ stateOf ram k → m ≡ n
-machine-of-unique ram k m n p q = p ∙ sym q
+pub machine-from-unique : (ram : List ℕ) (k : Core) (m n : Machine) → m ≡ machineFrom ram k → n ≡ machineFrom ram k → m ≡ n
+machine-from-unique ram k m n p q = p ∙ sym q

@@ -14,10 +14,9 @@ use Rattle.machine.specs.declared.Completed.the-variants.{NoInstruction,
 use Rattle.machine.specs.declared.Report.{Report}
 use Rattle.machine.specs.declared.Answer.{Answer}
 use Rattle.machine.specs.declared.Turn.{Turn}
-use Rattle.machine.specs.Judgements.{Judgement, Refuse, Wait, Perform}
 use Rattle.machine.specs.declared.Effect.{Effect}
 use Rattle.machine.specs.Pins.{oeYHigh}
-use Rattle.machine.specs.Judging.{judgementOf}
+use Rattle.machine.specs.Judging.{Judgement, Refuse, Wait, Perform, judgementOf}
 use Rattle.machine.specs.Seeing.{viewOf}
 use Rattle.machine.specs.Acting.{effectOf}
 use Rattle.machine.specs.Settling.{latched, withWaiting, settledOf}

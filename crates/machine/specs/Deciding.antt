@@ -11,15 +11,9 @@ use Rattle.plan.specs.Plans.{planOf}
 use Rattle.machine.specs.declared.Waiting.{Waiting}
 use Rattle.machine.specs.declared.Waiting.the-variants.{Nothing, Held}
 use Rattle.machine.specs.declared.Words.{Words}
-use Rattle.machine.specs.declared.Judged.{Judged}
+use Rattle.machine.specs.declared.Verdict.{Verdict}
 use Rattle.machine.specs.Pins.{ienHigh}
-use Rattle.machine.specs.Judgements.{Judgement, Wait, Perform}
-use Rattle.machine.specs.Judging.{pinChecks, checksOf, judged}
-
--- the word that a cycle is about: the one that waits, or its lines
-abbrev pub wordAbout : Waiting → ℕ → ℕ
-wordAbout Nothing lines = lines
-wordAbout (Held w) lines = w
+use Rattle.machine.specs.Judging.{pinChecks, checksOf, wordAbout}
 
 -- the I operand, 0 where there is none
 abbrev pub immediateIn : Waiting → ℕ → ℕ
@@ -31,27 +25,25 @@ abbrev pub onlyBegins : Waiting → Bool → Bool
 onlyBegins Nothing asks = asks
 onlyBegins (Held w) asks = false
 
--- the number of the first check that holds, by the word's refusal and whether it asks for an I operand
+-- the number of the first check that holds: the lists of Judging, with the word's refusal and whether it asks for an I operand in place of the
+-- word
 abbrev pub beginBy : ℕ → Bool → ℕ → ℕ
-beginBy wrong asks pins =
-    refusal (pinChecks pins (check wrong (not (eqb wrong 0)) ∷ check 10 (pick asks (ienHigh pins) false) ∷ []))
+beginBy number asks pins =
+    refusal (pinChecks pins (check number (not (eqb number 0)) ∷ check 10 (pick asks (ienHigh pins) false) ∷ []))
 
 abbrev pub secondBy : Bool → ℕ → ℕ
 secondBy asks pins = refusal (check 4 (not asks) ∷ pinChecks pins [])
 
 abbrev pub cycleBy : Waiting → ℕ → Bool → ℕ → ℕ
-cycleBy Nothing wrong asks pins = beginBy wrong asks pins
-cycleBy (Held w) wrong asks pins = secondBy asks pins
+cycleBy Nothing number asks pins = beginBy number asks pins
+cycleBy (Held w) number asks pins = secondBy asks pins
 
--- a judgement in plain fields, and the judgement that they are
-unfoldable pub judgedOf : Waiting → Words → Judged
-judgedOf x c = record {
+-- a judgement in plain fields
+unfoldable pub verdictOf : Waiting → Words → Verdict
+verdictOf x c = record {
   refusal = refusal (checksOf x c);
   begins = onlyBegins x (takesImmediate (wordAbout x (c .lines)));
   named = namedBy (wordAbout x (c .lines));
   plan = planOf (namedBy (wordAbout x (c .lines)));
   immediate = immediateIn x (c .lines);
 }
-
-abbrev pub judgementIn : Judged → Judgement
-judgementIn j = judged (j .refusal) (pick (j .begins) Wait (Perform (j .named) (j .plan) (j .immediate)))

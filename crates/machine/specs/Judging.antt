@@ -8,12 +8,18 @@ use Rattle.choice.specs.Pick.{pick}
 use Rattle.choice.specs.Checks.{Check, check, refusal}
 use Rattle.isa.specs.declared.Named.{Named}
 use Rattle.isa.specs.Words.{decodeOf, namedBy, takesImmediate}
+use Rattle.plan.specs.declared.Plan.{Plan}
 use Rattle.plan.specs.Plans.{planOf}
 use Rattle.machine.specs.declared.Waiting.{Waiting}
 use Rattle.machine.specs.declared.Waiting.the-variants.{Nothing, Held}
 use Rattle.machine.specs.declared.Words.{Words}
-use Rattle.machine.specs.Judgements.{Judgement, Refuse, Wait, Perform}
 use Rattle.machine.specs.Pins.{ienHigh, strayPin, busClash}
+
+-- a cycle is refused with a number, or is the first of two, or performs an instruction by its plan, with its I operand
+pub data Judgement : Type 0 where
+  Refuse : ℕ → Judgement
+  Wait : Judgement
+  Perform : Named → Plan → ℕ → Judgement
 
 -- the pins of any cycle
 abbrev pub pinChecks : ℕ → List Check → List Check
@@ -34,6 +40,11 @@ secondChecks w c = check 4 (not (takesImmediate w)) ∷ pinChecks (c .pins) []
 abbrev pub checksOf : Waiting → Words → List Check
 checksOf Nothing c = beginChecks c
 checksOf (Held w) c = secondChecks w c
+
+-- the word that a cycle is about: the one that waits, since the lines are then the operand and never decoded, or the lines
+abbrev pub wordAbout : Waiting → ℕ → ℕ
+wordAbout Nothing lines = lines
+wordAbout (Held w) lines = w
 
 -- an instruction is performed by its plan
 abbrev pub perform : Named → ℕ → Judgement

@@ -1,5 +1,4 @@
 pub mod Pins
-pub mod Judgements
 pub mod Judging
 pub mod Seeing
 pub mod Acting

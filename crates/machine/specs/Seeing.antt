@@ -1,7 +1,6 @@
 -- What an instruction sees: the named register, ACC, D and the I operand at its width, and the status (document 01, what the instructions
 -- do).
 use Prim.Native.Nat.{ℕ, _+_, _*_, _/_, _%_}
-use mathlib.Core.List.{List, [], _∷_}
 use lib.ListN.{getD}
 use Rattle.alu.specs.declared.Mode.{Mode}
 use Rattle.alu.specs.Width.{widthOf, low}
@@ -39,16 +38,3 @@ operandOf Latch v = v .latch
 operandOf Immediate v = v .immediate
 operandOf LatchZeroExtended v = zeroExtended (v .latch)
 operandOf LatchSignExtended v = signExtended (v .latch)
-
--- the operands as the code takes them: all of them in a list, and each source's place in it
-abbrev pub sourcesOf : View → List ℕ
-sourcesOf v = 0 ∷ v .ram ∷ v .acc ∷ v .latch ∷ v .immediate ∷ zeroExtended (v .latch) ∷ signExtended (v .latch) ∷ []
-
-abbrev pub placeOf : Source → ℕ
-placeOf Zero = 0
-placeOf Ram = 1
-placeOf Acc = 2
-placeOf Latch = 3
-placeOf Immediate = 4
-placeOf LatchZeroExtended = 5
-placeOf LatchSignExtended = 6

@@ -1,7 +1,7 @@
 // What an instruction does with what it sees.
 use crate::Effect;
 use crate::View;
-use crate::seeing::operand;
+use crate::seeing::place;
 use crate::seeing::sources;
 use alu::Mode;
 use alu::Operation;
@@ -24,8 +24,8 @@ fn width_mask(mode: Mode) -> u16
     }
 }
 
-// The operation of a task on its operands: x, y and the mask, each as the task has it. The tasks of the status compute nothing, and are not
-// asked for.
+// The operation of a task on its operands: x, y and the mask, each as the task has it. NOOP and the tasks of the status compute nothing, and are
+// not asked for.
 fn operation_of(task: Task, n: u8, x: u16, y: u16, mask: u16) -> Operation
     ensures { λ r. ⌜ r ≡ operationOf task n x y mask ⌝ }
 {
@@ -64,7 +64,7 @@ fn operation_of(task: Task, n: u8, x: u16, y: u16, mask: u16) -> Operation
     }
 }
 
-// The outcome of a task. All that compute go by one call, because a function that is called in one place becomes a part of its caller.
+// The outcome of a task. All that compute go by one call, because the compiler makes a part of the cycle only of what is called once.
 fn outcome_for(task: Task, mode: Mode, n: u8, x: u16, y: u16, mask: u16, status: u8) -> Outcome
     ensures { λ o. ⌜ o ≡ outcomeFor task mode n x y mask status ⌝ }
 {
@@ -154,13 +154,16 @@ fn performed(plan: Plan, view: View) -> Outcome
     let second = operands.second;
     let mask = operands.mask;
     let all = sources(view);
+    let first = place(first);
+    let second = place(second);
+    let mask = place(mask);
     outcome_for(
         task,
         mode,
         plan.n,
-        operand(first, all),
-        operand(second, all),
-        operand(mask, all),
+        all[first],
+        all[second],
+        all[mask],
         view.status,
     )
 }

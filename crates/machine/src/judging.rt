@@ -1,5 +1,5 @@
 // Whether a cycle is refused, waits, or performs an instruction. A cycle's word is looked up here and nowhere else.
-use crate::Judged;
+use crate::Verdict;
 use crate::Waiting;
 use crate::Words;
 use crate::pins;
@@ -11,8 +11,8 @@ ghost use lib.Dec.{eqb};
 ghost use Rattle.choice.specs.Checks.{refusal};
 ghost use Rattle.choice.specs.Pick.{pick};
 ghost use Rattle.plan.specs.Reading.{namesI};
-ghost use Rattle.machine.specs.Judging.{pinChecks};
-ghost use Rattle.machine.specs.Deciding.{wordAbout, immediateIn, onlyBegins, beginBy, secondBy, cycleBy, judgedOf};
+ghost use Rattle.machine.specs.Judging.{pinChecks, wordAbout};
+ghost use Rattle.machine.specs.Deciding.{immediateIn, onlyBegins, beginBy, secondBy, cycleBy, verdictOf};
 
 // The word that a cycle is about: the one that waits, or its lines.
 fn word_about(waiting: Waiting, lines: u16) -> u16
@@ -34,11 +34,11 @@ fn immediate_in(waiting: Waiting, lines: u16) -> u16
     }
 }
 
-// Whether a word with this refusal, or 0, and this work asks for an I operand.
-fn asks_immediate(wrong: u8, work: Work) -> bool
-    ensures { λ r. ⌜ r ≡ pick (eqb wrong 0) (namesI work) false ⌝ }
+// Whether a word with this work asks for an I operand; fault is the word's refusal, or 0.
+fn asks_immediate(fault: u8, work: Work) -> bool
+    ensures { λ r. ⌜ r ≡ pick (eqb fault 0) (namesI work) false ⌝ }
 {
-    if wrong == 0 {
+    if fault == 0 {
         plan::names_immediate(work)
     } else {
         false
@@ -65,16 +65,16 @@ fn pin_refusal(levels: u16) -> u8
     if pins::bus_clash(levels) { 6 } else { 0 }
 }
 
-// What a cycle with nothing waiting is refused with, or 0.
-fn begin_refusal(wrong: u8, asks: bool, levels: u16) -> u8
-    ensures { λ r. ⌜ r ≡ beginBy wrong asks levels ⌝ }
+// What a cycle with nothing waiting is refused with, or 0; fault is its word's own refusal.
+fn begin_refusal(fault: u8, asks: bool, levels: u16) -> u8
+    ensures { λ r. ⌜ r ≡ beginBy fault asks levels ⌝ }
 {
-    let bad = pin_refusal(levels);
-    if bad != 0 {
-        return bad;
+    let number = pin_refusal(levels);
+    if number != 0 {
+        return number;
     }
-    if wrong != 0 {
-        return wrong;
+    if fault != 0 {
+        return fault;
     }
     if asks {
         if pins::ien_high(levels) { 10 } else { 0 }
@@ -91,24 +91,25 @@ fn second_refusal(asks: bool, levels: u16) -> u8
 }
 
 // What a cycle is refused with, or 0, by its word's refusal and whether it asks for an I operand.
-fn cycle_refusal(waiting: Waiting, wrong: u8, asks: bool, levels: u16) -> u8
-    ensures { λ r. ⌜ r ≡ cycleBy waiting wrong asks levels ⌝ }
+fn cycle_refusal(waiting: Waiting, fault: u8, asks: bool, levels: u16) -> u8
+    ensures { λ r. ⌜ r ≡ cycleBy waiting fault asks levels ⌝ }
 {
     match waiting {
-        Waiting::Nothing => begin_refusal(wrong, asks, levels),
+        Waiting::Nothing => begin_refusal(fault, asks, levels),
         Waiting::Held(_) => second_refusal(asks, levels),
     }
 }
 
-pub(crate) fn judge(waiting: Waiting, words: Words) -> Judged
-    ensures { λ r. ⌜ r ≡ judgedOf waiting words ⌝ }
+// Whether a cycle is refused, only begins an instruction, or performs one.
+pub(crate) fn judge(waiting: Waiting, words: Words) -> Verdict
+    ensures { λ r. ⌜ r ≡ verdictOf waiting words ⌝ }
 {
     let found = isa::look_up(word_about(waiting, words.lines));
     let named = found.named;
     let plan = plan::plan_for(named);
     let work = plan.work;
     let asks = asks_immediate(found.refusal, work);
-    Judged {
+    Verdict {
         refusal: cycle_refusal(waiting, found.refusal, asks, words.pins),
         begins: only_begins(waiting, asks),
         named: named,

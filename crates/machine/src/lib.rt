@@ -6,7 +6,7 @@ use plan::Plan;
 
 mod pins; // pins.rt: the levels of a cycle's pins
 mod judging; // judging.rt: refused, waiting or performed
-mod stepping; // stepping.rt: what is done in each of the three
+mod stepping; // stepping.rt: what a cycle does when it is refused, waits, or performs an instruction
 mod seeing; // seeing.rt: what an instruction sees
 mod acting; // acting.rt: what it does
 mod settling; // settling.rt: what is written
@@ -15,7 +15,7 @@ mod conditions; // conditions.rt: CT and T
 ghost use mathlib.Core.Path.{_≡_};
 ghost use Rattle.machine.specs.Judging.{mayStart};
 ghost use Rattle.machine.specs.Cycles.{cycleOf, turnTells};
-ghost use Rattle.machine.specs.Stepping.{stateOf, coreOf, reportIn, stepTells, Steps};
+ghost use Rattle.machine.specs.Stepping.{machineFrom, coreOf, reportIn, stepTells, Steps};
 
 // The word of an instruction with an I operand, between its two cycles.
 pub enum Waiting {
@@ -77,8 +77,8 @@ pub struct Turn {
     pub answer: Answer,
 }
 
-// What a step leaves besides RAM, and tells: the number of its refusal or 0, what it shows, whether it only begins an instruction, and the
-// instruction of the word that it is about. Plain fields, because those stay in the processor's registers where an enum goes through memory.
+// What a step leaves besides RAM, and tells: the number of its refusal or 0, and then nothing else means anything; what it shows, whether it
+// only begins an instruction, and the instruction of the word that it is about. Plain fields, because those stay in the processor's registers where an enum goes through memory.
 pub struct Stepped {
     pub core: Core,
     pub refusal: u8,
@@ -92,7 +92,7 @@ pub struct Stepped {
 
 // What a cycle is judged to be: the number of its refusal or 0, whether it only begins an instruction, and the instruction of the word that
 // it is about with its plan and its I operand. Plain fields, as above.
-pub struct Judged {
+pub struct Verdict {
     pub refusal: u8,
     pub begins: bool,
     pub named: Named,
@@ -128,7 +128,7 @@ pub fn may_start(waiting: Waiting) -> bool
     }
 }
 
-// The registers but RAM.
+// A machine taken apart: its registers but RAM.
 pub fn core_of(registers: Registers) -> Core
     ensures { λ r. ⌜ r ≡ coreOf registers ⌝ }
 {
@@ -141,9 +141,9 @@ pub fn core_of(registers: Registers) -> Core
     }
 }
 
-// The machine of RAM and the other registers.
-pub fn machine_of(ram: [u16; 32], core: Core) -> Machine
-    ensures { λ r. ⌜ r ≡ stateOf ram core ⌝ }
+// A machine put together of RAM and the other registers.
+pub fn machine_from(ram: [u16; 32], core: Core) -> Machine
+    ensures { λ r. ⌜ r ≡ machineFrom ram core ⌝ }
 {
     let waiting = core.waiting;
     let registers = Registers {
@@ -158,7 +158,7 @@ pub fn machine_of(ram: [u16; 32], core: Core) -> Machine
     }
 }
 
-// One cycle with RAM in place: it is judged; then it is refused, or waits, or its instruction sees, acts and settles.
+// One cycle with RAM in place: it is judged; it is refused or, with D latched, it waits, or its instruction sees, acts and settles.
 pub fn step(ram: &mut [u16; 32], core: Core, words: Words) -> Stepped
     ensures { λ r. ⌜ Steps (now (ram .entry)) core words r (now (ram .exit)) ⌝ }
 {
@@ -176,6 +176,7 @@ pub fn step(ram: &mut [u16; 32], core: Core, words: Words) -> Stepped
     stepping::performs(ram, named, plan, before, judged.immediate, words.pins)
 }
 
+// What a step that is not refused completed.
 fn completed_by(stepped: Stepped) -> Completed
     ensures { λ r. ⌜ r ≡ reportIn stepped .completed ⌝ }
 {
@@ -187,11 +188,12 @@ fn completed_by(stepped: Stepped) -> Completed
     }
 }
 
+// A step and the RAM that it left, as `cycle` gives them.
 fn turn_of(ram: [u16; 32], stepped: Stepped) -> Turn
     ensures { λ r. ⌜ turnTells r ≡ stepTells ram stepped ⌝ }
 {
     let core = stepped.core;
-    let machine = machine_of(ram, core);
+    let machine = machine_from(ram, core);
     if stepped.refusal != 0 {
         return Turn {
             machine: machine,

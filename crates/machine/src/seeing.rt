@@ -5,10 +5,8 @@ use alu::Mode;
 use plan::Source;
 ghost use mathlib.Core.Path.{_≡_};
 ghost use Prim.Native.Nat.{_<_};
-ghost use lib.ListN.{getD};
 ghost use Rattle.alu.specs.Width.{widthOf, low};
-ghost use Rattle.machine.specs.Seeing.{sourcesOf, placeOf};
-ghost use Rattle.machine.specs.Stepping.{seenOf};
+ghost use Rattle.machine.specs.Stepping.{seenOf, sourcesOf, placeOf};
 
 // The part of a word at the width.
 fn at_width(mode: Mode, x: u16) -> u16
@@ -33,7 +31,8 @@ pub(crate) fn seen(mode: Mode, word: u16, core: Core, immediate: u16) -> View
     }
 }
 
-// Every word that an operand can be, in the order of the sources: read by place, so that no branch hangs on the source.
+// Every word that an operand can be, in the order of the sources. An operand is read by its place here, because a processor cannot guess jumps
+// over the sources.
 pub(crate) fn sources(view: View) -> [u16; 7]
     ensures { λ r. ⌜ r ≡ sourcesOf view ⌝ }
 {
@@ -48,7 +47,8 @@ pub(crate) fn sources(view: View) -> [u16; 7]
     ]
 }
 
-fn place(source: Source) -> usize
+// The place of a source among them.
+pub(crate) fn place(source: Source) -> usize
     ensures { λ r. ⌜ (r ≡ placeOf source) × (r < 7) ⌝ }
 {
     match source {
@@ -60,11 +60,4 @@ fn place(source: Source) -> usize
         Source::LatchZeroExtended => 5,
         Source::LatchSignExtended => 6,
     }
-}
-
-pub(crate) fn operand(source: Source, all: [u16; 7]) -> u16
-    ensures { λ r. ⌜ r ≡ getD all (placeOf source) 0 ⌝ }
-{
-    let at = place(source);
-    all[at]
 }

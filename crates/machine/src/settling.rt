@@ -6,10 +6,8 @@ use crate::pins;
 use alu::Mode;
 use plan::Destination;
 ghost use mathlib.Core.Path.{_≡_};
-ghost use Rattle.choice.specs.Pick.{pick};
-ghost use Rattle.machine.specs.Pins.{ienHigh};
 ghost use Rattle.machine.specs.Settling.{accAfter, statusAfter};
-ghost use Rattle.machine.specs.Stepping.{latchedCore, waitingCore, wordAfter, writtenWord, settledCore};
+ghost use Rattle.machine.specs.Stepping.{latchedCore, waitingCore, wordAfter, settledWord, settledRam, settledAcc, settledCore};
 
 // D takes the Y input where DLE is high.
 pub(crate) fn latched(core: Core, input: u16, levels: u16) -> Core
@@ -22,6 +20,7 @@ pub(crate) fn latched(core: Core, input: u16, levels: u16) -> Core
     next
 }
 
+// The word of a first immediate cycle is kept.
 pub(crate) fn with_waiting(core: Core, waiting: Waiting) -> Core
     ensures { λ r. ⌜ r ≡ waitingCore core waiting ⌝ }
 {
@@ -45,9 +44,8 @@ fn word_after(destination: Destination, mode: Mode, result: u16, word: u16) -> u
     }
 }
 
-// The named register's word after an instruction.
-pub(crate) fn written(mode: Mode, effect: Effect, word: u16, levels: u16) -> u16
-    ensures { λ r. ⌜ r ≡ writtenWord mode effect word levels ⌝ }
+fn settled_word(mode: Mode, effect: Effect, word: u16, levels: u16) -> u16
+    ensures { λ r. ⌜ r ≡ settledWord mode effect word levels ⌝ }
 {
     let destination = effect.destination;
     if pins::ien_high(levels) {
@@ -55,6 +53,15 @@ pub(crate) fn written(mode: Mode, effect: Effect, word: u16, levels: u16) -> u16
     } else {
         word_after(destination, mode, effect.result, word)
     }
+}
+
+// RAM after an instruction; register is the one that is written. Its word is put back whatever the destination is, and may be as it was.
+pub(crate) fn settle_ram(ram: &mut [u16; 32], register: u8, mode: Mode, effect: Effect, levels: u16)
+    ensures { λ _. ⌜ now (ram .exit) ≡ settledRam mode register (now (ram .entry)) effect levels ⌝ }
+{
+    let at = (register % 32) as usize;
+    let word = ram[at];
+    ram[at] = settled_word(mode, effect, word, levels);
 }
 
 fn acc_after(destination: Destination, mode: Mode, result: u16, acc: u16) -> u16
@@ -75,8 +82,8 @@ fn status_after(old: u8, new: u8, levels: u16) -> u8
     if pins::both_low(levels) { new } else { old }
 }
 
-fn acc_settled(mode: Mode, effect: Effect, acc: u16, levels: u16) -> u16
-    ensures { λ r. ⌜ r ≡ pick (ienHigh levels) acc (accAfter (effect .destination) mode (effect .result) acc) ⌝ }
+fn settled_acc(mode: Mode, effect: Effect, acc: u16, levels: u16) -> u16
+    ensures { λ r. ⌜ r ≡ settledAcc mode acc effect levels ⌝ }
 {
     let destination = effect.destination;
     if pins::ien_high(levels) {
@@ -86,12 +93,12 @@ fn acc_settled(mode: Mode, effect: Effect, acc: u16, levels: u16) -> u16
     }
 }
 
-// The other registers after an instruction.
-pub(crate) fn settled(mode: Mode, core: Core, effect: Effect, levels: u16) -> Core
+// The registers but RAM after an instruction.
+pub(crate) fn settled_core(mode: Mode, core: Core, effect: Effect, levels: u16) -> Core
     ensures { λ r. ⌜ r ≡ settledCore mode core effect levels ⌝ }
 {
     Core {
-        acc: acc_settled(mode, effect, core.acc, levels),
+        acc: settled_acc(mode, effect, core.acc, levels),
         latch: core.latch,
         status: status_after(core.status, effect.status, levels),
         waiting: Waiting::Nothing,

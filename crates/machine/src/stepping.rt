@@ -14,8 +14,9 @@ use plan::Plan;
 ghost use mathlib.Core.Path.{_≡_};
 ghost use Rattle.choice.specs.Pick.{pick};
 ghost use Rattle.machine.specs.Pins.{oeYHigh};
-ghost use Rattle.machine.specs.Stepping.{refusedStep, waitingStep, Performs};
+ghost use Rattle.machine.specs.Stepping.{refusedStep, waitingStep, Performed};
 
+// The core as it was, and fields that tell nothing: no CT, T not driven.
 pub(crate) fn refused(named: Named, core: Core, number: u8) -> Stepped
     ensures { λ r. ⌜ r ≡ refusedStep named core number ⌝ }
 {
@@ -24,8 +25,8 @@ pub(crate) fn refused(named: Named, core: Core, number: u8) -> Stepped
         refusal: number,
         y: 0,
         mask: 0,
-        ct: 0,
-        t: 0,
+        ct: 2,
+        t: 16,
         begins: false,
         named: named,
     }
@@ -63,7 +64,7 @@ pub(crate) fn performs(
     immediate: u16,
     levels: u16,
 ) -> Stepped
-    ensures { λ r. ⌜ Performs (now (ram .entry)) named plan core immediate levels r (now (ram .exit)) ⌝ }
+    ensures { λ r. ⌜ Performed (now (ram .entry)) named plan core immediate levels r (now (ram .exit)) ⌝ }
 {
     let mode = plan.mode;
     let work = plan.work;
@@ -72,8 +73,8 @@ pub(crate) fn performs(
     let word = ram[at];
     let view = seeing::seen(mode, word, core, immediate);
     let effect = acting::acted(plan, view);
-    ram[at] = settling::written(mode, effect, word, levels);
-    let after = settling::settled(mode, core, effect, levels);
+    settling::settle_ram(ram, plan.register, mode, effect, levels);
+    let after = settling::settled_core(mode, core, effect, levels);
     Stepped {
         core: after,
         refusal: 0,

@@ -11,7 +11,7 @@ use Rattle.machine.specs.declared.Machine.{Machine}
 use Rattle.machine.specs.declared.Report.{Report}
 use Rattle.machine.specs.declared.Core.{Core}
 use Rattle.machine.specs.declared.Words.{Words}
-use Rattle.machine.specs.Stepping.{stateOf, coreOf}
+use Rattle.machine.specs.Stepping.{machineFrom, coreOf}
 use Rattle.machine.proofs.Laws.{refused-unchanged}
 use Rattle.machine.specs.Cycles.{Turned, cycleOf, completions}
 use Rattle.run.specs.declared.Ending.{Ending}
@@ -155,6 +155,6 @@ module _ {words : List ℕ} {budget : ℕ} {start : Machine} {reports₀ : List 
 
 -- a run from a machine's RAM and core is one from the machine
 pub from-parts : (m : Machine) (k : Core) → k ≡ coreOf (m .registers) → (budget : ℕ) (cs : List Words) (r : Ran) (x y : List ℕ)
-    → Gives (stateOf (m .registers .ram) k) (runFrom (stateOf (m .registers .ram) k) budget cs) r x y → Gives m (runFrom m budget cs) r x y
+    → Gives (machineFrom (m .registers .ram) k) (runFrom (machineFrom (m .registers .ram) k) budget cs) r x y → Gives m (runFrom m budget cs) r x y
 from-parts m k e budget cs r x y g =
-    subst (λ (k : Core). Gives (stateOf (m .registers .ram) k) (runFrom (stateOf (m .registers .ram) k) budget cs) r x y) e g
+    subst (λ (k : Core). Gives (machineFrom (m .registers .ram) k) (runFrom (machineFrom (m .registers .ram) k) budget cs) r x y) e g

@@ -11,7 +11,7 @@ ghost use lib.ListN.{length};
 ghost use lib.Seq.{sets};
 ghost use Rattle.choice.specs.Checks.{refusal};
 ghost use Rattle.machine.specs.Cycles.{completions};
-ghost use Rattle.machine.specs.Stepping.{stateOf, reportIn};
+ghost use Rattle.machine.specs.Stepping.{machineFrom, reportIn};
 ghost use Rattle.run.specs.Splitting.{wordsPerCycle, wordsPerReport, cycleAt, cyclesIn, cyclesOf, reportWords};
 ghost use Rattle.run.specs.Courses.{runFrom};
 ghost use Rattle.run.specs.Runs.{mostCycles, startChecks, runOf, zeroMachine, fullBudget, Gives};
@@ -91,9 +91,9 @@ fn instructions(stepped: Stepped) -> usize
 }
 
 fn ended(ram: [u16; 32], core: Core, ending: Ending, accepted: usize, completed: usize) -> Ran
-    ensures { λ r. ⌜ r ≡ record { machine = stateOf ram core; ending = ending; accepted = accepted; completed = completed } ⌝ }
+    ensures { λ r. ⌜ r ≡ record { machine = machineFrom ram core; ending = ending; accepted = accepted; completed = completed } ⌝ }
 {
-    let machine = machine::machine_of(ram, core);
+    let machine = machine::machine_from(ram, core);
     Ran {
         machine: machine,
         ending: ending,
@@ -105,7 +105,7 @@ fn ended(ram: [u16; 32], core: Core, ending: Ending, accepted: usize, completed:
 // The cycles one after another, once the run as a whole is accepted. RAM stays in its place, and each step writes into it.
 fn run_cycles(ram: [u16; 32], core: Core, words: &[u16], budget: u64, reports: &mut [u16]) -> Ran
     requires { ⌜ (cyclesIn (length (now words)) * wordsPerCycle ≡ length (now words)) × (cyclesIn (length (now words)) ≤ mostCycles) × (wordsPerReport * cyclesIn (length (now words)) ≤ length (now reports)) ⌝ }
-    ensures { λ r. ⌜ Gives (stateOf ram core) (runFrom (stateOf ram core) budget (cyclesOf (now (words .entry)))) r (now (reports .entry)) (now (reports .exit)) ⌝ }
+    ensures { λ r. ⌜ Gives (machineFrom ram core) (runFrom (machineFrom ram core) budget (cyclesOf (now (words .entry)))) r (now (reports .entry)) (now (reports .exit)) ⌝ }
 {
     let cycles = words.len() / WORDS_PER_CYCLE;
     let mut ram = ram;

@@ -1,25 +1,33 @@
--- `isa::named_as` meets its contract: the mode is that of the mark.
+-- `isa::named_as` meets its contract: the mode and the fields are those of the word.
 use borrow.Author.Needs.{needs}
 use Rattle.isa.proofs.named_as.Statement.{statement}
 use Rattle.isa.proofs.named_as.Tie as tie
 
-cast-mode-of : tie.Need-cast-mode-of
-cast-mode-of c = search needs
+mark-of-requires : tie.Need-mark-of-requires
+mark-of-requires c κs = search needs
 
 mode-of-requires : tie.Need-mode-of-requires
 mode-of-requires c κs = search needs
 
-cast-t5 : tie.Need-cast-t5
-cast-t5 c = search needs
+field-a-requires : tie.Need-field-a-requires
+field-a-requires c κs = search needs
 
-cast-t9 : tie.Need-cast-t9
-cast-t9 c = search needs
+field-b-requires : tie.Need-field-b-requires
+field-b-requires c κs = search needs
 
-cast-t11 : tie.Need-cast-t11
-cast-t11 c = search needs
+field-c-requires : tie.Need-field-c-requires
+field-c-requires c κs = search needs
 
 returns : tie.Need-returns
-returns c = rw (c .mode-of .ensures)
+returns c = rw (c .field-c .ensures, c .before .field-b .ensures, c .before .before .field-a .ensures, c .before .before .before .mode-of .ensures, c .before .before .before .before .mark-of .ensures)
 
 pub named-as-spec : {M : Type 1} → statement M
-named-as-spec = tie.close (tie.spec cast-mode-of mode-of-requires cast-t5 cast-t9 cast-t11 returns)
+named-as-spec =
+    tie.close
+    (tie.spec
+    mark-of-requires
+    mode-of-requires
+    field-a-requires
+    field-b-requires
+    field-c-requires
+    returns)

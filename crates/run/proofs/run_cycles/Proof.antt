@@ -4,7 +4,7 @@ use Prim.Native.Nat.{_-_}
 use native.Mathlib.Omega.{arith}
 use Rattle.choice.proofs.Tells.{tells-accepted, tells-refused}
 use Rattle.machine.specs.Cycles.{cycleOf}
-use Rattle.machine.specs.Stepping.{stateOf, reportIn}
+use Rattle.machine.specs.Stepping.{machineFrom, reportIn}
 use Rattle.run.proofs.Courses.{completions-le}
 use Rattle.run.proofs.Loop.{Before, begins, finishes, stops, refuses, again}
 use borrow.Author.Needs.{needs}
@@ -13,7 +13,7 @@ use Rattle.run.proofs.run_cycles.Tie as tie
 
 abbrev Inv-loop : tie.InvT-loop
 Inv-loop words budget reports₀ cycles ram₀ core₀ left₀ completed₀ i₀ reports ram core left completed i =
-    Before words budget (stateOf ram₀ core₀) reports₀ cycles reports (stateOf ram core) left completed i
+    Before words budget (machineFrom ram₀ core₀) reports₀ cycles reports (machineFrom ram core) left completed i
 
 abbrev μ-loop : tie.MeasureT-loop
 μ-loop words budget reports₀ cycles ram₀ core₀ left₀ completed₀ i₀ reports ram core left completed i =
@@ -54,7 +54,7 @@ returns-2 c =
     let loop = c .before .before .before .before .before .before .before .before .before .loop in
     rw (c .ended2 .ensures)
     (refuses (loop .inv) (start .pre .2) (c .before .before .before .before .before .before .before .before .loop-test .taken) (c .before .before .before .before .before .before .before .if1 .left) _
-    (c .before .before .before .before .step .ensures .turn ∙ ap (cycleOf (stateOf (loop .ram) (loop .core))) (c .before .before .before .before .before .cycle-at .ensures)) _ (tells-refused _ _ (c .before .if2 .taken)))
+    (c .before .before .before .before .step .ensures .turn ∙ ap (cycleOf (machineFrom (loop .ram) (loop .core))) (c .before .before .before .before .before .cycle-at .ensures)) _ (tells-refused _ _ (c .before .if2 .taken)))
 
 put-requires : tie.Need-put-requires Inv-loop μ-loop
 put-requires c κs = omega (arith, c .before .before .before .before .before .before .before .before .before .loop .inv .room, c .before .before .before .before .before .before .before .before .before .before .before .before .pre, c .before .before .before .before .before .before .before .before .loop-test .taken)
@@ -83,7 +83,7 @@ loop-again c =
     let loop = c .before .before .before .before .before .before .before .before .before .before .before .before .before .loop in
     rw (c .instructions .ensures)
     (again (loop .inv) (start .pre .2) (c .before .before .before .before .before .before .before .before .before .before .before .before .loop-test .taken) (c .before .before .before .before .before .before .before .before .before .before .before .if1 .left) _
-    (c .before .before .before .before .before .before .before .before .step .ensures .turn ∙ ap (cycleOf (stateOf (loop .ram) (loop .core))) (c .before .before .before .before .before .before .before .before .before .cycle-at .ensures)) (reportIn (c .before .before .before .before .before .before .before .before .step .result)) _ (tells-accepted _ _ (c .before .before .before .before .before .if2 .left)) (c .before .before .before .put .ensures))
+    (c .before .before .before .before .before .before .before .before .step .ensures .turn ∙ ap (cycleOf (machineFrom (loop .ram) (loop .core))) (c .before .before .before .before .before .before .before .before .before .cycle-at .ensures)) (reportIn (c .before .before .before .before .before .before .before .before .step .result)) _ (tells-accepted _ _ (c .before .before .before .before .before .if2 .left)) (c .before .before .before .put .ensures))
 
 ended-requires-3 : tie.Need-ended-requires-3 Inv-loop μ-loop
 ended-requires-3 c κs = search needs

@@ -19,17 +19,11 @@ seen-requires c κs = search needs
 acted-requires : tie.Need-acted-requires
 acted-requires c κs = search needs
 
-written-requires : tie.Need-written-requires
-written-requires c κs = search needs
+settle-ram-requires : tie.Need-settle-ram-requires
+settle-ram-requires c κs = search needs
 
-mul-ram : tie.Need-mul-ram
-mul-ram c = search needs
-
-element-write-ram : tie.Need-element-write-ram
-element-write-ram c = search needs
-
-settled-requires : tie.Need-settled-requires
-settled-requires c κs = search needs
+settled-core-requires : tie.Need-settled-core-requires
+settled-core-requires c κs = search needs
 
 on-y-requires : tie.Need-on-y-requires
 on-y-requires c κs = search needs
@@ -44,7 +38,10 @@ t-requires : tie.Need-t-requires
 t-requires c κs = search needs
 
 returns : tie.Need-returns
-returns c = rw (c .t .ensures, c .before .ct .ensures, c .before .before .on-y2 .ensures, c .before .before .before .on-y .ensures, c .before .before .before .before .settled .ensures, c .before .before .before .before .before .written .ensures, c .before .before .before .before .before .before .acted .ensures, c .before .before .before .before .before .before .before .seen .ensures) (performed-right (c .before .before .before .before .before .before .before .before .before .before .before .args .named) (c .before .before .before .before .before .before .before .before .before .before .before .args .plan) (c .before .before .before .before .before .before .before .before .before .before .before .args .ram .now) (c .before .before .before .before .before .before .before .before .before .before .before .args .core) (c .before .before .before .before .before .before .before .before .before .before .before .args .immediate) (c .before .before .before .before .before .before .before .before .before .before .before .args .levels))
+returns c =
+    let start = c .before .before .before .before .before .before .before .before .before .before .before .before in
+    rw (c .t .ensures, c .before .ct .ensures, c .before .before .on-y2 .ensures, c .before .before .before .on-y .ensures, c .before .before .before .before .settled-core .ensures, c .before .before .before .before .before .settle-ram .ensures, c .before .before .before .before .before .before .before .acted .ensures, c .before .before .before .before .before .before .before .before .seen .ensures)
+    (performed-right (start .args .named) (start .args .plan) (start .args .ram .now) (start .args .core) (start .args .immediate) (start .args .levels))
 
 pub performs-spec : {M : Type 1} → statement M
 performs-spec =
@@ -55,10 +52,8 @@ performs-spec =
     element-copy-out-word
     seen-requires
     acted-requires
-    written-requires
-    mul-ram
-    element-write-ram
-    settled-requires
+    settle-ram-requires
+    settled-core-requires
     on-y-requires
     on-y-requires-2
     ct-requires
