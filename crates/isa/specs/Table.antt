@@ -152,7 +152,7 @@ rows =
 abbrev pub noRow : ℕ
 noRow = 27
 
--- the row of a number; past the last one a row that takes nothing, whose family is never told
+-- the row of a number; past the last one a row that takes nothing, whose family means nothing
 abbrev pub rowAt : ℕ → Row
 rowAt i = getD rows i (row Tor1 0 0 0 0 0 noRule never)
 

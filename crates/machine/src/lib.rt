@@ -77,8 +77,9 @@ pub struct Turn {
     pub answer: Answer,
 }
 
-// What a step leaves besides RAM, and tells: the number of its refusal or 0, and then nothing else means anything; what it shows, whether it
-// only begins an instruction, and the instruction of the word that it is about. Plain fields, because those stay in the processor's registers where an enum goes through memory.
+// What a step leaves besides RAM, and tells: the core; the number of its refusal, or 0; what it shows; whether it only begins an instruction;
+// and the instruction of the word that it is about. Of a refused step only the core and the number mean something. Plain fields, because
+// those stay in the processor's registers where an enum goes through memory.
 pub struct Stepped {
     pub core: Core,
     pub refusal: u8,
