@@ -40,7 +40,7 @@ pub passed : (k : ℕ) (b : Bool) (xs : List Check) → b ≡ false → refusal 
 passed k true xs e = absurd (never (sym e))
 passed k false xs e = refl
 
--- of two lists the first that gives a number gives it
+-- of two lists, one after the other, the first gives its number if it gives any, and else the second does; no check of the first has number 0
 pub ahead : (xs ys : List Check) → (refusal xs ≡ 0 → ⊥) → refusal (xs ++ ys) ≡ refusal xs
 ahead [] ys n = absurd (n refl)
 ahead (x ∷ xs) ys n = by-test (x .holds) n (ahead xs ys)

@@ -1,4 +1,4 @@
--- The row that is found for some fields is the one that takes them.
+-- The row that is found for some fields is the one that takes them; and the table gone through row by row.
 use mathlib.Core.Path.{_≡_, refl, _∙_, sym, ap, subst}
 use mathlib.Core.Bool.{Bool, true, false}
 use mathlib.Core.List.{List, [], _∷_}
@@ -125,7 +125,7 @@ module _ (mark q a b c : ℕ) where
       let u = row-belongs (finds 0 rows whole in-table i (t .listed) (subst (λ (i : ℕ). Belongs mark q a b c i) e t)) in
       one-row (rowOf mark q a b c) i mark a b c (u .listed) (t .listed) (u .quadrant ∙ sym (t .quadrant)) (u .fields) (t .fields)
 
--- the table gone through row by row: no row before i takes the word
+-- row i takes a word
 abbrev TakesWord : ℕ → ℕ → Type 0
 TakesWord w i = Belongs (markOf w) (quadrantOf w) (fieldA w) (fieldB w) (fieldC w) i
 
@@ -135,6 +135,7 @@ apart i h l = omega arith
 within : (i j k : ℕ) → i < j → j ≤ k → i < k
 within i j k h l = omega arith
 
+-- no row before i does
 pub record Past (w i : ℕ) : Type 0 where
   pub bound : i ≤ noRow
   pub none : (j : ℕ) → j < i → TakesWord w j → ⊥

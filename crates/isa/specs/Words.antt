@@ -43,7 +43,7 @@ unlistedWord w = check 7 (leb noRow (wordNumber w)) ∷ []
 abbrev pub wordChecks : ℕ → List Check
 wordChecks w = unlistedWord w ++ ruleChecks (wordRow w) (markOf w) (fieldA w) (fieldB w)
 
--- the instruction that a listed word names
+-- the instruction that a word's row and fields name
 abbrev pub namedBy : ℕ → Named
 namedBy w = record { family = wordRow w .family; mode = modeOf (markOf w); a = fieldA w; b = fieldB w; c = fieldC w }
 

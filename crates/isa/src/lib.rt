@@ -69,7 +69,7 @@ pub struct Named {
 }
 
 // What a word says: the number of its refusal, or 0, and the instruction that its row and fields name, which means nothing where the word is
-// refused. Plain fields, because those stay in the processor's registers where an enum goes through memory.
+// refused. Plain fields, because an enum that holds a struct goes through memory (docs/DECISIONS.md, 48).
 pub struct Lookup {
     pub refusal: u8,
     pub named: Named,
@@ -126,7 +126,7 @@ fn row_refusal(number: u8, word: u16) -> u8
     )
 }
 
-// The refusal of a word, or 0, and its instruction. An unlisted word has the blank row's family, which means nothing.
+// The refusal of a word, or 0, and its instruction. An unlisted word gets TOR1, the family of the row past the table, which means nothing.
 pub fn look_up(word: u16) -> Lookup
     ensures { λ r. ⌜ r ≡ lookupOf word ⌝ }
 {
@@ -205,8 +205,8 @@ fn takes_word(row: Row, word: u16) -> bool
     }
 }
 
-// The number of the row that takes a word, or `number::NONE`: by the table itself, row by row. What runs cycles looks words up in one place
-// alone, because the compiler makes a part of the cycle only of what is called once.
+// The number of the row that takes a word, or `number::NONE`: by the table itself, row by row. A run looks words up by the decision in one
+// place, the judge, because the compiler makes a part of the cycle only of what is called once.
 fn row_in_table(word: u16) -> usize
     ensures { λ r. ⌜ SameRow word r ⌝ }
 {

@@ -1,4 +1,4 @@
-// The rows' numbers by the families' names, for the arms of the decision.
+// The rows' numbers by the families' names.
 pub(crate) const TOR1: u8 = 0;
 
 pub(crate) const ROTR1: u8 = 1;

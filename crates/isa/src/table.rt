@@ -379,8 +379,9 @@ pub(crate) fn rule_at(number: u8) -> u8
     match number {
         number::BOR2 => BIT_IN_MODE,
         number::PRT3 => ONE_ACC,
+        number::BOR1 => BIT_IN_MODE,
+        number::BONR => BIT_IN_MODE,
         number::PRTNR => ONE_ACC,
-        number::BOR1..=number::BONR => BIT_IN_MODE,
         _ => NO_RULE,
     }
 }

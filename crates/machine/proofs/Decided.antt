@@ -9,10 +9,8 @@ use Rattle.choice.specs.Pick.{pick}
 use Rattle.choice.specs.Checks.{Check, check, refusal}
 use Rattle.choice.proofs.Checks.{held, passed, ahead, behind}
 use Rattle.choice.proofs.Picks.{picked, unpicked}
-use Rattle.choice.proofs.Spans.{never}
 use Rattle.choice.proofs.Tells.{told-number}
 use Rattle.isa.specs.declared.Lookup.{Lookup}
-use Rattle.isa.specs.declared.Named.{Named}
 use Rattle.isa.specs.Words.{decodeOf, lookupOf, wordChecks, namedBy, namesI as wordNamesI, takesImmediate}
 use Rattle.isa.proofs.Answers.{decode-accepted, decode-refused}
 use Rattle.plan.specs.declared.Plan.{Plan}
@@ -28,31 +26,31 @@ use Rattle.machine.specs.Judging.{Judgement, Refuse, Wait, Perform, pinC
 use Rattle.machine.specs.Deciding.{immediateIn, onlyBegins, beginBy, cycleBy, verdictOf}
 
 -- a cycle with nothing waiting: the pins, then the word's own number, then IEN
-module _ (word : ℕ) (asks : Bool) (pins number : ℕ) (e : number ≡ refusal (pinChecks pins [])) where
+module _ (fault : ℕ) (asks : Bool) (pins number : ℕ) (e : number ≡ refusal (pinChecks pins [])) where
   abbrev late : List Check
   late = check 10 (pick asks (ienHigh pins) false) ∷ []
 
   abbrev rest : List Check
-  rest = check word (not (eqb word 0)) ∷ late
+  rest = check fault (not (eqb fault 0)) ∷ late
 
-  pub begin-pins : (number ≡ 0 → ⊥) → number ≡ beginBy word asks pins
+  pub begin-pins : (number ≡ 0 → ⊥) → number ≡ beginBy fault asks pins
   begin-pins n = e ∙ sym (ahead (pinChecks pins []) rest (λ z. n (e ∙ z)))
 
-  past-pins : number ≡ 0 → beginBy word asks pins ≡ refusal rest
+  past-pins : number ≡ 0 → beginBy fault asks pins ≡ refusal rest
   past-pins z = behind (pinChecks pins []) rest tt (sym e ∙ z)
 
-  pub begin-word : number ≡ 0 → (word ≡ 0 → ⊥) → word ≡ beginBy word asks pins
-  begin-word z n = sym (past-pins z ∙ held word (not (eqb word 0)) late (ap not (ne-eqb word 0 n)))
+  pub begin-fault : number ≡ 0 → (fault ≡ 0 → ⊥) → fault ≡ beginBy fault asks pins
+  begin-fault z n = sym (past-pins z ∙ held fault (not (eqb fault 0)) late (ap not (ne-eqb fault 0 n)))
 
   -- the number of the last check, once its condition is known
-  pub begin-late : number ≡ 0 → word ≡ 0 → (b : Bool) → pick asks (ienHigh pins) false ≡ b → refusal (check 10 b ∷ []) ≡ beginBy word asks pins
+  pub begin-late : number ≡ 0 → fault ≡ 0 → (b : Bool) → pick asks (ienHigh pins) false ≡ b → refusal (check 10 b ∷ []) ≡ beginBy fault asks pins
   begin-late z y b q =
       ap (λ (b : Bool). refusal (check 10 b ∷ [])) (sym q)
-      ∙ sym (past-pins z ∙ passed word (not (eqb word 0)) late (ap not (eq-eqb word 0 y)))
+      ∙ sym (past-pins z ∙ passed fault (not (eqb fault 0)) late (ap not (eq-eqb fault 0 y)))
 
 -- a word, what was found of it, and its plan: it asks for an I operand if it is not refused and the plan names one
 module _ (w : ℕ) (h : w < 0x10000) (l : Lookup) (e : l ≡ lookupOf w) (p : Plan) (f : p ≡ planOf (l .named)) where
-  pub asks-right : (asks : Bool) → asks ≡ pick (eqb (l .refusal) 0) (namesI (p .work)) false → asks ≡ takesImmediate w
+  asks-right : (asks : Bool) → asks ≡ pick (eqb (l .refusal) 0) (namesI (p .work)) false → asks ≡ takesImmediate w
   unfolding takesImmediate
   asks-right asks a = a ∙ by-test (eqb (l .refusal) 0) refl
     where
@@ -63,16 +61,16 @@ module _ (w : ℕ) (h : w < 0x10000) (l : Lookup) (e : l ≡ lookupOf w) (p : Pl
       by-test false q = ap (λ t. wordNamesI (t .value)) (decode-refused w l e (eqb-false (l .refusal) 0 q))
 
 -- the word's refusal is decoding's number
-wrong-right : (w : ℕ) → lookupOf w .refusal ≡ decodeOf w .number
+refusal-decoded : (w : ℕ) → lookupOf w .refusal ≡ decodeOf w .number
 unfolding lookupOf decodeOf
-wrong-right w = sym (told-number (refusal (wordChecks w)) (namedBy w))
+refusal-decoded w = sym (told-number (refusal (wordChecks w)) (namedBy w))
 
 -- what the checks give, by what was found of the word
-checks-right : (x : Waiting) (c : Words) (wrong : ℕ) (asks : Bool) → wrong ≡ decodeOf (wordAbout x (c .lines)) .number → asks ≡ takesImmediate (wordAbout x (c .lines))
-    → cycleBy x wrong asks (c .pins) ≡ refusal (checksOf x c)
-checks-right Nothing c wrong asks e a =
+checks-right : (x : Waiting) (c : Words) (fault : ℕ) (asks : Bool) → fault ≡ decodeOf (wordAbout x (c .lines)) .number → asks ≡ takesImmediate (wordAbout x (c .lines))
+    → cycleBy x fault asks (c .pins) ≡ refusal (checksOf x c)
+checks-right Nothing c fault asks e a =
     ap (λ (i : ℕ). cycleBy Nothing i asks (c .pins)) e ∙ ap (λ (b : Bool). cycleBy Nothing (decodeOf (c .lines) .number) b (c .pins)) a
-checks-right (Held w) c wrong asks e a = ap (λ (b : Bool). cycleBy (Held w) wrong b (c .pins)) a
+checks-right (Held w) c fault asks e a = ap (λ (b : Bool). cycleBy (Held w) fault b (c .pins)) a
 
 -- the verdict, by its parts
 module _ (x : Waiting) (c : Words) (w : ℕ) (h : w < 0x10000) (v : w ≡ wordAbout x (c .lines)) (l : Lookup) (e : l ≡ lookupOf w) (p : Plan) (f : p ≡ planOf (l .named))
@@ -89,8 +87,8 @@ module _ (x : Waiting) (c : Words) (w : ℕ) (h : w < 0x10000) (v : w ≡ wordAb
       → record { refusal = number; begins = begins; named = l .named; plan = p; immediate = immediate } ≡ verdictOf x c
   unfolding verdictOf
   judge-right number r begins s immediate t =
-      let wrong : l .refusal ≡ decodeOf (wordAbout x (c .lines)) .number = ap (λ (l : Lookup). l .refusal) e ∙ wrong-right w ∙ ap (λ (w : ℕ). decodeOf w .number) v in
-      let numbered = r ∙ checks-right x c (l .refusal) asks wrong asked in
+      let fault : l .refusal ≡ decodeOf (wordAbout x (c .lines)) .number = ap (λ (l : Lookup). l .refusal) e ∙ refusal-decoded w ∙ ap (λ (w : ℕ). decodeOf w .number) v in
+      let numbered = r ∙ checks-right x c (l .refusal) asks fault asked in
       let planned : p ≡ planOf (namedBy (wordAbout x (c .lines))) = f ∙ ap planOf named in
       let begun : begins ≡ onlyBegins x (takesImmediate (wordAbout x (c .lines))) = s ∙ ap (onlyBegins x) asked in
       rw (numbered, begun, planned, named, t)

@@ -8,7 +8,6 @@ use lib.ListN.{getD, set}
 use borrow.Author.Tests.{eqb-true, eqb-false}
 use Rattle.choice.specs.Pick.{pick}
 use Rattle.choice.specs.Tells.{Tells, tells}
-use Rattle.choice.proofs.Spans.{never}
 use Rattle.choice.proofs.Tells.{tells-accepted, tells-refused, told-number, accepted-one}
 use Rattle.alu.specs.declared.Mode.{Mode}
 use Rattle.isa.specs.declared.Named.{Named}

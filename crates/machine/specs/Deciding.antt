@@ -25,18 +25,18 @@ abbrev pub onlyBegins : Waiting → Bool → Bool
 onlyBegins Nothing asks = asks
 onlyBegins (Held w) asks = false
 
--- the number of the first check that holds: the lists of Judging, with the word's refusal and whether it asks for an I operand in place of the
--- word
+-- the number of the first check that holds: the lists of Judging, with the word's refusal, its fault, and whether it asks for an I operand in
+-- place of the word
 abbrev pub beginBy : ℕ → Bool → ℕ → ℕ
-beginBy number asks pins =
-    refusal (pinChecks pins (check number (not (eqb number 0)) ∷ check 10 (pick asks (ienHigh pins) false) ∷ []))
+beginBy fault asks pins =
+    refusal (pinChecks pins (check fault (not (eqb fault 0)) ∷ check 10 (pick asks (ienHigh pins) false) ∷ []))
 
 abbrev pub secondBy : Bool → ℕ → ℕ
 secondBy asks pins = refusal (check 4 (not asks) ∷ pinChecks pins [])
 
 abbrev pub cycleBy : Waiting → ℕ → Bool → ℕ → ℕ
-cycleBy Nothing number asks pins = beginBy number asks pins
-cycleBy (Held w) number asks pins = secondBy asks pins
+cycleBy Nothing fault asks pins = beginBy fault asks pins
+cycleBy (Held w) fault asks pins = secondBy asks pins
 
 -- a judgement in plain fields
 unfoldable pub verdictOf : Waiting → Words → Verdict

@@ -24,49 +24,74 @@ fn width_mask(mode: Mode) -> u16
     }
 }
 
-// The operation of a task on its operands: x, y and the mask, each as the task has it. NOOP and the tasks of the status compute nothing, and are
-// not asked for.
-fn operation_of(task: Task, n: u8, x: u16, y: u16, mask: u16) -> Operation
-    ensures { λ r. ⌜ r ≡ operationOf task n x y mask ⌝ }
+// The operation of a task on its operands, each as the task has it. NOOP and the tasks of the status compute nothing and are not asked for; a
+// rotate stands in their arms.
+fn operation_of(task: Task, n: u8, first: u16, second: u16, mask: u16) -> Operation
+    ensures { λ r. ⌜ r ≡ operationOf task n first second mask ⌝ }
 {
     match task {
-        Task::NoOperation => Operation::Rotate { n, source: x },
-        Task::TwoOperand(kind) => Operation::TwoOperand { kind, r: x, s: y },
-        Task::OneOperand(kind) => Operation::OneOperand { kind, source: x },
-        Task::Bit(kind) => Operation::Bit { kind, n, source: x },
-        Task::Shift(kind) => Operation::Shift { kind, source: x },
-        Task::Rotate => Operation::Rotate { n, source: x },
+        Task::NoOperation => Operation::Rotate { n, source: first },
+        Task::TwoOperand(kind) => Operation::TwoOperand {
+            kind,
+            r: first,
+            s: second,
+        },
+        Task::OneOperand(kind) => Operation::OneOperand {
+            kind,
+            source: first,
+        },
+        Task::Bit(kind) => Operation::Bit {
+            kind,
+            n,
+            source: first,
+        },
+        Task::Shift(kind) => Operation::Shift {
+            kind,
+            source: first,
+        },
+        Task::Rotate => Operation::Rotate { n, source: first },
         Task::Merge => Operation::Merge {
             n,
-            u: x,
-            r: y,
+            u: first,
+            r: second,
             mask,
         },
         Task::Compare => Operation::Compare {
             n,
-            u: x,
-            r: y,
+            u: first,
+            r: second,
             mask,
         },
-        Task::Prioritize => Operation::Prioritize { source: x, mask },
+        Task::Prioritize => Operation::Prioritize {
+            source: first,
+            mask,
+        },
         Task::CrcForward => Operation::CrcForward {
-            register: x,
-            acc: y,
+            register: first,
+            acc: second,
         },
         Task::CrcReverse => Operation::CrcReverse {
-            register: x,
-            acc: y,
+            register: first,
+            acc: second,
         },
-        Task::SaveStatus => Operation::Rotate { n, source: x },
-        Task::SetStatus(_) => Operation::Rotate { n, source: x },
-        Task::ResetStatus(_) => Operation::Rotate { n, source: x },
-        Task::TestStatus => Operation::Rotate { n, source: x },
+        Task::SaveStatus => Operation::Rotate { n, source: first },
+        Task::SetStatus(_) => Operation::Rotate { n, source: first },
+        Task::ResetStatus(_) => Operation::Rotate { n, source: first },
+        Task::TestStatus => Operation::Rotate { n, source: first },
     }
 }
 
 // The outcome of a task. All that compute go by one call, because the compiler makes a part of the cycle only of what is called once.
-fn outcome_for(task: Task, mode: Mode, n: u8, x: u16, y: u16, mask: u16, status: u8) -> Outcome
-    ensures { λ o. ⌜ o ≡ outcomeFor task mode n x y mask status ⌝ }
+fn outcome_for(
+    task: Task,
+    mode: Mode,
+    n: u8,
+    first: u16,
+    second: u16,
+    mask: u16,
+    status: u8,
+) -> Outcome
+    ensures { λ o. ⌜ o ≡ outcomeFor task mode n first second mask status ⌝ }
 {
     match task {
         Task::NoOperation => Outcome { result: 0, status },
@@ -83,7 +108,7 @@ fn outcome_for(task: Task, mode: Mode, n: u8, x: u16, y: u16, mask: u16, status:
             status: status & (255 - bits),
         },
         Task::TestStatus => Outcome { result: 0, status },
-        _ => alu::perform(mode, operation_of(task, n, x, y, mask), status),
+        _ => alu::perform(mode, operation_of(task, n, first, second, mask), status),
     }
 }
 

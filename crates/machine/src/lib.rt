@@ -78,8 +78,8 @@ pub struct Turn {
 }
 
 // What a step leaves besides RAM, and tells: the core; the number of its refusal, or 0; what it shows; whether it only begins an instruction;
-// and the instruction of the word that it is about. Of a refused step only the core and the number mean something. Plain fields, because
-// those stay in the processor's registers where an enum goes through memory.
+// and the instruction of the word that it is about. Of a refused step only the core and the number mean something. Plain fields, as isa's
+// `Lookup` has them.
 pub struct Stepped {
     pub core: Core,
     pub refusal: u8,
@@ -92,7 +92,7 @@ pub struct Stepped {
 }
 
 // What a cycle is judged to be: the number of its refusal or 0, whether it only begins an instruction, and the instruction of the word that
-// it is about with its plan and its I operand. Plain fields, as above.
+// it is about with its plan and its I operand. Plain fields, too.
 pub struct Verdict {
     pub refusal: u8,
     pub begins: bool,

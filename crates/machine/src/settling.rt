@@ -55,7 +55,8 @@ fn settled_word(mode: Mode, effect: Effect, word: u16, levels: u16) -> u16
     }
 }
 
-// RAM after an instruction; register is the one that is written. Its word is put back whatever the destination is, and may be as it was.
+// RAM after an instruction; register is the one that is written. Its word is put back whatever the destination is, possibly as it was, so that
+// no jump hangs on the destination.
 pub(crate) fn settle_ram(ram: &mut [u16; 32], register: u8, mode: Mode, effect: Effect, levels: u16)
     ensures { λ _. ⌜ now (ram .exit) ≡ settledRam mode register (now (ram .entry)) effect levels ⌝ }
 {

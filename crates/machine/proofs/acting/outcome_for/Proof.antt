@@ -53,7 +53,7 @@ unfolding outcomeFor
 returns-5 c = rw (c .enum-told3 .given .1)
 
 returns-6 : tie.Need-returns-6
-returns-6 c = rw (c .perform .ensures, c .before .operation-of .ensures) (computed (c .before .before .before .args .task) (c .before .before .match .keys6) (c .before .before .before .args .mode) (c .before .before .before .args .n) (c .before .before .before .args .x) (c .before .before .before .args .y) (c .before .before .before .args .mask) (c .before .before .before .args .status))
+returns-6 c = rw (c .perform .ensures, c .before .operation-of .ensures) (computed (c .before .before .before .args .task) (c .before .before .match .keys6) (c .before .before .before .args .mode) (c .before .before .before .args .n) (c .before .before .before .args .first) (c .before .before .before .args .second) (c .before .before .before .args .mask) (c .before .before .before .args .status))
 
 pub outcome-for-spec : {M : Type 1} → statement M
 outcome-for-spec =

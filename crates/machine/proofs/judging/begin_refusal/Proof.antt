@@ -1,6 +1,6 @@
 -- `machine::judging::begin_refusal` meets its contract: the checks are made in their order.
 use mathlib.Core.Bool.{true, false}
-use Rattle.machine.proofs.Decided.{begin-pins, begin-word, begin-late}
+use Rattle.machine.proofs.Decided.{begin-pins, begin-fault, begin-late}
 use borrow.Author.Needs.{needs}
 use Rattle.machine.proofs.judging.begin_refusal.Statement.{statement}
 use Rattle.machine.proofs.judging.begin_refusal.Tie as tie
@@ -12,7 +12,7 @@ returns : tie.Need-returns
 returns c = begin-pins (c .before .before .args .fault) (c .before .before .args .asks) (c .before .before .args .levels) _ (c .before .pin-refusal .ensures) (c .if1 .taken)
 
 returns-2 : tie.Need-returns-2
-returns-2 c = begin-word (c .before .before .before .args .fault) (c .before .before .before .args .asks) (c .before .before .before .args .levels) _ (c .before .before .pin-refusal .ensures) (c .before .if1 .left) (c .if2 .taken)
+returns-2 c = begin-fault (c .before .before .before .args .fault) (c .before .before .before .args .asks) (c .before .before .before .args .levels) _ (c .before .before .pin-refusal .ensures) (c .before .if1 .left) (c .if2 .taken)
 
 ien-high-requires : tie.Need-ien-high-requires
 ien-high-requires c κs = search needs
