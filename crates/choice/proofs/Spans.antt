@@ -3,7 +3,7 @@ use mathlib.Core.Path.{_≡_, refl, subst}
 use mathlib.Core.Bool.{Bool, true, false, not}
 use Prim.Native.Nat.{ℕ, zero, suc, _+_, _<_, _≤_}
 use native.Mathlib.Omega.{arith}
-use lib.Dec.{T, eqb}
+use lib.Dec.{T, eqb, eqb→eq}
 use borrow.Author.Tests.{eqb-true, eqb-false}
 
 pub never : false ≡ true → ⊥
@@ -45,3 +45,7 @@ span-at f (suc n) lo x t h k =
 
 pub below : (f : ℕ → Bool) (n x : ℕ) → T (span 0 n f) → x < n → T (f x)
 below f n x t h = span-at f n 0 x t (omega arith) (omega arith)
+
+-- two functions that are the same at each number below n
+pub equal-below : (f g : ℕ → ℕ) (n x : ℕ) → T (span 0 n (λ y. eqb (f y) (g y))) → x < n → f x ≡ g x
+equal-below f g n x t h = eqb→eq (f x) (g x) (below (λ y. eqb (f y) (g y)) n x t h)

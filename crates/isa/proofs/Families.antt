@@ -2,11 +2,11 @@
 use mathlib.Core.Path.{_≡_, refl}
 use mathlib.Core.Bool.{Bool, true, false}
 use Prim.Native.Nat.{ℕ, _<_}
-use lib.Dec.{T, eqb, ltb, lit<, ltb→lt, eqb→eq}
+use lib.Dec.{T, eqb, ltb, lit<, ltb→lt}
 use lib.ListN.{length}
 use Rattle.alu.specs.declared.Mode.{Mode}
 use Rattle.alu.specs.declared.Mode.the-variants.{Byte, Word}
-use Rattle.choice.proofs.Spans.{span, below, both}
+use Rattle.choice.proofs.Spans.{span, below, equal-below, both}
 use Rattle.isa.specs.declared.Row.{Row}
 use Rattle.isa.specs.declared.Family.{Family}
 use Rattle.isa.specs.declared.Family.the-variants.{Tor1, Rotr1, Rotr2, Rotc, Rotm, Sor, Bor2, Tor2, Shftr, Crcf, Crcr, Prt1, Prt2, Prt3, Svstr, Sonr, Tonr, Shftnr, Bor1, Bonr, Rotnr, Prtnr, Svstnr, Setst, Rstst, Test, Noop}
@@ -52,7 +52,7 @@ numbered : T (span 0 noRow (λ i. eqb (numberOf (rowAt i .family)) i))
 numbered = tt
 
 pub own-number : (i : ℕ) → i < noRow → numberOf (rowAt i .family) ≡ i
-own-number i h = eqb→eq (numberOf (rowAt i .family)) i (below (λ i. eqb (numberOf (rowAt i .family)) i) noRow i numbered h)
+own-number i = equal-below (λ i. numberOf (rowAt i .family)) (λ i. i) noRow i numbered
 
 -- every row is narrow
 narrow-test : ℕ → Bool
