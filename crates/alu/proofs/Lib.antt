@@ -1,5 +1,7 @@
 pub mod Fits
 pub mod Bits
+pub mod Xors
+pub mod Linear
 pub mod Reduced
 pub mod Written
 pub mod Unique
