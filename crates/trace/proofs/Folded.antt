@@ -21,18 +21,7 @@ use Rattle.machine.specs.Settling.{settledOf}
 use Rattle.machine.specs.Reporting.{conditionOf}
 use Rattle.machine.specs.Cycles.{cycleOf}
 use Rattle.trace.specs.Check.{checkStart, crcCycle, checkBit, checkBits, checkBytes, checkOf}
-
--- the register after a bit
-abbrev pub foldBit : ℕ → ℕ → ℕ
-foldBit register b = crcForward 16 register 0x1021 (16 * (b % 2)) .result
-
-abbrev pub foldBits : ℕ → ℕ → ℕ → ℕ
-foldBits zero register byte = register
-foldBits (suc n) register byte = foldBits n (foldBit register (bit n byte)) byte
-
-abbrev pub foldBytes : ℕ → List ℕ → ℕ
-foldBytes register [] = register
-foldBytes register (byte ∷ bytes) = foldBytes (foldBits 8 register byte) bytes
+use Rattle.trace.specs.Folding.{foldBit, foldBits, foldBytes}
 
 -- the machine with a register in R0 and some status, and else as at the start
 abbrev holding : ℕ → ℕ → Machine

@@ -12,4 +12,5 @@ pub mod Unique
 pub mod Trips
 pub mod Exactly
 pub mod Folded
+pub mod Passes
 pub mod Long

@@ -1,4 +1,5 @@
 pub mod Check
+pub mod Folding
 pub mod Layout
 pub mod Blocks
 pub mod Answers

@@ -1,79 +1,17 @@
-// The check of a trace block, by the machine's own CRCF: a machine is carried through one cycle for each bit. It goes by value, as `cycle`
-// takes it.
-use machine::Machine;
-use machine::Registers;
-use machine::Waiting;
-use machine::Words;
+// The check of a trace block, byte by byte. It is defined by the machine's own CRCF, a bit at a time (specs/Check); here only the check
+// register is carried, with the incoming bits (specs/Folding).
 ghost use mathlib.Core.Path.{_≡_};
-ghost use Rattle.machine.specs.Seeing.{registerAt};
-ghost use Rattle.trace.specs.Check.{checkStart, withLink, checkBit, checkBits};
+ghost use Rattle.trace.specs.Folding.{foldBits};
 
-// The register is R0, and ACC has the polynomial.
-pub(crate) fn start() -> Machine
-    ensures { λ r. ⌜ r ≡ checkStart ⌝ }
+// A pass: eight bits' work on the register and the incoming bits of a byte, the top one first. Each step moves the register up one, and xors
+// 1021 (1s at bits 12, 5 and 0) into it where the bit that leaves and the incoming one, LINK on the chip, differ. What leaves is the upper
+// byte, but that each 1 which a step put at bit 12 leaves four steps later. So `fed` has a 1 for each step that xors, the first on top, and
+// each such 1021 has moved up by the steps after it: one expression does the work of eight.
+pub(crate) fn check_byte(register: u16, byte: u8) -> u16
+    ensures { λ r. ⌜ r ≡ foldBits 8 register byte ⌝ }
 {
-    let registers = Registers {
-        ram: [0; 32],
-        acc: 0x1021,
-        latch: 0,
-        status: 0,
-        waiting: Waiting::Nothing,
-    };
-    Machine {
-        registers: registers,
-    }
-}
-
-// The lowest bit of a number put into LINK.
-fn with_link(machine: Machine, bit: u8) -> Machine
-    ensures { λ r. ⌜ r ≡ withLink machine bit ⌝ }
-{
-    let before = machine.registers;
-    let ram = before.ram;
-    let waiting = before.waiting;
-    let registers = Registers {
-        ram: ram,
-        acc: before.acc,
-        latch: before.latch,
-        status: 16 * (bit % 2),
-        waiting: waiting,
-    };
-    Machine {
-        registers: registers,
-    }
-}
-
-// CRCF on R0 with a bit in LINK.
-fn check_bit(machine: Machine, bit: u8) -> Machine
-    ensures { λ r. ⌜ r ≡ checkBit machine bit ⌝ }
-{
-    let words = Words {
-        lines: 0xCC60,
-        input: 0,
-        pins: 0,
-    };
-    let turn = machine::cycle(with_link(machine, bit), words);
-    let after = turn.machine;
-    after
-}
-
-// Eight bits, the top one first.
-pub(crate) fn check_byte(machine: Machine, byte: u8) -> Machine
-    ensures { λ r. ⌜ r ≡ checkBits 8 machine byte ⌝ }
-{
-    let mut state = machine;
-    let mut left: u8 = 8;
-    while left != 0 {
-        left -= 1;
-        state = check_bit(state, byte >> left);
-    }
-    state
-}
-
-pub(crate) fn register(machine: Machine) -> u16
-    ensures { λ r. ⌜ r ≡ registerAt (machine .registers) 0 ⌝ }
-{
-    let registers = machine.registers;
-    let ram = registers.ram;
-    ram[0]
+    let differ = (register >> 8) ^ byte as u16;
+    let fed = differ ^ (differ >> 4);
+    let over = (fed << 12) ^ (fed << 5) ^ fed;
+    (register << 8) ^ over
 }

@@ -1,6 +1,6 @@
 // Trace blocks: cycle words into blocks of 512 bytes, and back.
 mod layout; // layout.rt: where things stand in a block
-mod checking; // checking.rt: the machine carried through CRCF
+mod checking; // checking.rt: the check, a byte to a pass
 mod judging; // judging.rt: what a block is refused for
 mod copying; // copying.rt: the records of blocks into words
 mod making; // making.rt: words into blocks
@@ -29,13 +29,13 @@ pub enum Filled {
 pub fn check(bytes: &[u8]) -> u16
     ensures { λ r. ⌜ r ≡ checkOf (now (bytes .entry)) ⌝ }
 {
-    let mut machine = checking::start();
+    let mut register: u16 = 0;
     let mut i: usize = 0;
     while i < bytes.len() {
-        machine = checking::check_byte(machine, bytes[i]);
+        register = checking::check_byte(register, bytes[i]);
         i += 1;
     }
-    checking::register(machine)
+    register
 }
 
 // Reads a trace into cycle words. Nothing is written before all of it is accepted.
