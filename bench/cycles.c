@@ -37,6 +37,12 @@ static size_t run_c(const struct trace *trace, uint16_t *reports)
     return emulate(&machine, trace->words, CYCLES, reports, &refusal);
 }
 
+static size_t run_nothing(const struct trace *trace, uint16_t *reports)
+{
+    (void)trace, (void)reports;
+    return 0;
+}
+
 /* Draws a cycle: any word (of byte mode), any input, any pins that may be 1. */
 static void draw_cycle(uint16_t cycle[3], bool byte_mode)
 {
@@ -128,13 +134,17 @@ void measure_cycles(void)
 
 bool work_on_cycles(const char *name, int traces)
 {
-    run_function *run = strcmp(name, "alone") == 0 ? run_alone : strcmp(name, "c") == 0 ? run_c : NULL;
-    if (run == NULL && strcmp(name, "no-run") != 0)
-        return false;
-    for (int i = 0; i < traces; i++) {
-        make_trace(any_mode, false);
-        if (run != NULL)
-            run(any_mode, reports);
-    }
-    return true;
+    static const struct {
+        const char *name;
+        run_function *run;
+    } runs[] = {{"alone", run_alone}, {"beside", run_beside_check}, {"c", run_c}, {"no-run", run_nothing}};
+    for (size_t i = 0; i < sizeof runs / sizeof *runs; i++)
+        if (strcmp(name, runs[i].name) == 0) {
+            while (traces-- > 0) {
+                make_trace(any_mode, false);
+                runs[i].run(any_mode, reports);
+            }
+            return true;
+        }
+    return false;
 }

@@ -2,11 +2,11 @@
  *
  * usage: driver           compares every answer, then prints the times
  *        driver NAME N    makes N traces and does one work on each, for a tool that counts instructions:
- *                         alone, c        the run, ours or C's
- *                         no-run          nothing, after the same trace is made
- *                         check, table    the checks of all blocks, ours or C's
- *                         read            the reading
- *                         no-work         nothing, after the same blocks are made
+ *                         alone, beside, c    the run: ours, ours with trace linked, or C's
+ *                         no-run              nothing, after the same trace is made
+ *                         check, table        the checks of all blocks, ours or C's
+ *                         read                the reading
+ *                         no-work             nothing, after the same blocks are made
  */
 #include "measure.h"
 
@@ -42,7 +42,7 @@ int main(int count, char **arguments)
     if (count == 3 && (work_on_cycles(arguments[1], atoi(arguments[2])) || work_on_blocks(arguments[1], atoi(arguments[2]))))
         return 0;
     if (count != 1) {
-        fputs("usage: driver, or driver alone|c|no-run|check|table|read|no-work N\n", stderr);
+        fputs("usage: driver, or driver alone|beside|c|no-run|check|table|read|no-work N\n", stderr);
         return 2;
     }
     compare_cycles();
