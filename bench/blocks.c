@@ -99,12 +99,12 @@ void compare_blocks(void)
     printf("blocks: the same checks as in C; a full trace is read, and refused with a bit turned over, 1000 times\n");
 }
 
-/* Keeps the least nanoseconds that a work on the whole trace takes. */
-static void time_once(void (*work)(void), double *best)
+/* Keeps the least nanoseconds that a job on the whole trace takes. */
+static void time_once(void (*job)(void), double *best)
 {
     double begun = seconds();
     for (int pass = 0; pass < PASSES; pass++)
-        work();
+        job();
     keep_least(best, (seconds() - begun) * 1e9 / PASSES);
 }
 
@@ -125,13 +125,13 @@ bool work_on_blocks(const char *name, int traces)
 {
     static const struct {
         const char *name;
-        void (*work)(void);
-    } works[] = {{"check", check_ours}, {"table", check_table}, {"read", read_trace}, {"no-work", nothing}};
-    for (size_t i = 0; i < sizeof works / sizeof *works; i++)
-        if (strcmp(name, works[i].name) == 0) {
+        void (*job)(void);
+    } jobs[] = {{"check", check_ours}, {"table", check_table}, {"read", read_trace}, {"no-job", nothing}};
+    for (size_t i = 0; i < sizeof jobs / sizeof *jobs; i++)
+        if (strcmp(name, jobs[i].name) == 0) {
             while (traces-- > 0) {
                 make_trace();
-                works[i].work();
+                jobs[i].job();
             }
             return true;
         }

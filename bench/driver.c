@@ -1,12 +1,12 @@
 /* Times what is proved against plain C, in one process and on the same input, and the proved reader by itself.
  *
  * usage: driver           compares every answer, then prints the times
- *        driver NAME N    makes N traces and does one work on each, for a tool that counts instructions:
+ *        driver NAME N    makes N traces and does one job on each, for a tool that counts instructions:
  *                         alone, beside, c    the run: ours, ours with trace linked, or C's
  *                         no-run              nothing, after the same trace is made
  *                         check, table        the checks of all blocks, ours or C's
  *                         read                the reading
- *                         no-work             nothing, after the same blocks are made
+ *                         no-job              nothing, after the same blocks are made
  */
 #include "measure.h"
 
@@ -42,7 +42,7 @@ int main(int count, char **arguments)
     if (count == 3 && (work_on_cycles(arguments[1], atoi(arguments[2])) || work_on_blocks(arguments[1], atoi(arguments[2]))))
         return 0;
     if (count != 1) {
-        fputs("usage: driver, or driver alone|beside|c|no-run|check|table|read|no-work N\n", stderr);
+        fputs("usage: driver, or driver alone|beside|c|no-run|check|table|read|no-job N\n", stderr);
         return 2;
     }
     compare_cycles();

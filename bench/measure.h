@@ -16,7 +16,7 @@ double seconds(void);
 /* Keeps the least of several times. */
 void keep_least(double *best, double taken);
 
-/* cycles.c: the run beside the emulator in C. The first makes the input that the second then times; the third does one work on some traces,
+/* cycles.c: the run beside the emulator in C. The first makes the input that the second then times; the third does one job on some traces,
    and answers false where none has that name. */
 void compare_cycles(void);
 void measure_cycles(void);

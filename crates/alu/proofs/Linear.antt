@@ -1,4 +1,4 @@
--- CRCF is linear: of the xor of two registers, with the xor of their LINKs, it makes the xor of what it makes of each.
+-- CRCF is linear: its result for the xor of two registers, with the xor of their LINKs and the same ACC, is the xor of its results for each.
 use mathlib.Core.Path.{_≡_, refl, sym, ap, ap₂, _∙_}
 use Prim.Native.Nat.{ℕ, _-_, _*_, _%_, _^_, _<_}
 use native.Mathlib.Nat.{add-zero}

@@ -1,4 +1,4 @@
--- Xor as a sum without carries: in any order, at any place, and gone when it is put over twice.
+-- Xor is associative, moves up with its operands, and cancels where the same number comes twice.
 use mathlib.Core.Path.{_≡_, refl, sym, ap, ap₂, _∙_}
 use Prim.Native.Nat.{ℕ, _+_, _*_, _/_, _%_, _^_, _<_}
 use native.Mathlib.Nat.{mod-lt, zero-lt-suc, add-zero, div-add-mod'}

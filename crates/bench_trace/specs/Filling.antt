@@ -1,4 +1,4 @@
--- The reader told by the number of words that it fills, and the lent words, alone.
+-- The reader, told by the number of words that it fills and by the lent words alone.
 use mathlib.Core.Path.{_≡_}
 use mathlib.Core.List.{List}
 use mathlib.Core.Option.{none, some}

@@ -1,4 +1,4 @@
--- The check as the code works it out (document 02, §6): of the machine in specs/Check only the register and the incoming bit are carried.
+-- The check on the register alone (document 02, §6): of the machine in specs/Check only the register and the incoming bit are carried.
 -- `foldBits` is for the contract of a pass over a byte, `foldBytes` for `check-fold` (proofs/Folded), which says that it is the same check.
 use Prim.Native.Nat.{ℕ, zero, suc, _*_, _%_}
 use mathlib.Core.List.{List, [], _∷_}
