@@ -18,13 +18,13 @@ gated-linear acc = bits (λ (f g : ℕ). gated (bitXor f g) acc ≡ bitXor (gate
 
 module _ (w acc : ℕ) where
   -- whether ACC comes over the register: it does where LINK and the bit that leaves differ
-  abbrev fed : ℕ → ℕ → ℕ
+  abbrev pub fed : ℕ → ℕ → ℕ
   fed register status = bitXor (storedLINK status) (bit (w - 1) register)
 
-  fed-lt : (register status : ℕ) → fed register status < 2
+  pub fed-lt : (register status : ℕ) → fed register status < 2
   fed-lt register status = xor-lt 1 (storedLINK status) (bit (w - 1) register) (bit-lt 4 status) (bit-lt (w - 1) register)
 
-  step-is : (register status : ℕ) → crcForward w register acc status .result ≡ bitXor (movedUp w register 0) (gated (fed register status) acc)
+  pub step-is : (register status : ℕ) → crcForward w register acc status .result ≡ bitXor (movedUp w register 0) (gated (fed register status) acc)
   unfolding plain linked withSign crcStep crcForward
   step-is register status = refl
 

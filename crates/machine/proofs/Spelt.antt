@@ -1,15 +1,15 @@
--- Single cycles spelt out: what is written with IEN and SRE low, after a MOVE and after a two-operand instruction; and that a word
--- that may wait is completed.
+-- Single cycles spelt out: that a word without an I operand is performed at once; what is written with IEN and SRE low, after a MOVE and
+-- after a two-operand instruction; and that a word that may wait is completed.
 use mathlib.Core.Path.{_≡_, refl, _∙_, sym, ap}
-use mathlib.Core.Bool.{Bool, true, false}
-use mathlib.Core.List.{List}
+use mathlib.Core.Bool.{Bool, true, false, not}
+use mathlib.Core.List.{List, [], _∷_}
 use Prim.Native.Nat.{ℕ}
 use lib.Dec.{eqb}
 use Rattle.choice.specs.Pick.{pick}
-use Rattle.choice.specs.Checks.{refusal}
-use Rattle.choice.specs.Tells.{accepted}
+use Rattle.choice.specs.Checks.{check, refusal}
+use Rattle.choice.specs.Tells.{Tells, accepted}
 use Rattle.choice.proofs.Spans.{never}
-use Rattle.choice.proofs.Tells.{accepted-one, accepted-refused}
+use Rattle.choice.proofs.Tells.{accepted-one, accepted-refused, told-accepted}
 use Rattle.alu.specs.declared.Mode.{Mode}
 use Rattle.alu.specs.declared.Outcome.{Outcome}
 use Rattle.alu.specs.declared.TwoOperandKind.{TwoOperandKind}
@@ -17,7 +17,8 @@ use Rattle.alu.specs.declared.OneOperandKind.the-variants.{Move}
 use Rattle.alu.specs.declared.Operation.the-variants.{TwoOperand as TwoOperandOn, OneOperand as OneOperandOn}
 use Rattle.alu.specs.Width.{widthOf}
 use Rattle.alu.specs.Operations.{outcomeOf}
-use Rattle.isa.specs.Words.{namedBy}
+use Rattle.isa.specs.declared.Named.{Named}
+use Rattle.isa.specs.Words.{wordChecks, namedBy, decodeOf, namedRow, asksI, namesI, takesImmediate}
 use Rattle.plan.specs.declared.Source.{Source}
 use Rattle.plan.specs.declared.Destination.{Destination}
 use Rattle.plan.specs.declared.Task.the-variants.{TwoOperand, OneOperand}
@@ -32,12 +33,41 @@ use Rattle.machine.specs.declared.View.{View}
 use Rattle.machine.specs.declared.Effect.{Effect}
 use Rattle.machine.specs.declared.Completed.the-variants.{Instruction}
 use Rattle.machine.specs.declared.Report.{Report}
-use Rattle.machine.specs.Pins.{ienHigh, bothLow}
-use Rattle.machine.specs.Judging.{Refuse, checksOf, judged, perform, judgementOf}
+use Rattle.machine.specs.Pins.{ienHigh, bothLow, strayPin, busClash}
+use Rattle.machine.specs.Judging.{Judgement, Refuse, Wait, checksOf, judged, perform, judgementOf}
 use Rattle.machine.specs.Seeing.{viewOf, operandOf}
 use Rattle.machine.specs.Acting.{statusFor, outcomeFor, effectOf}
 use Rattle.machine.specs.Settling.{latched, ramAfter, accAfter, settledOf}
 use Rattle.machine.specs.Cycles.{effectFrom, turnOf, cycleOf}
+
+-- with nothing waiting, a cycle whose word is accepted and has no I operand, and whose pins are in order, performs the word's instruction
+module _ (m : Machine) (c : Words) (i : Named) (idle : m .registers .waiting ≡ Nothing) (stray : strayPin (c .pins) ≡ false)
+    (clash : busClash (c .pins) ≡ false) (word : decodeOf (c .lines) ≡ accepted i) (single : asksI (namedRow i) (i .a) (i .b) ≡ false) where
+  named : namedBy (c .lines) ≡ i
+  unfolding decodeOf
+  named = told-accepted (refusal (wordChecks (c .lines))) (namedBy (c .lines)) i word .1
+
+  no-immediate : takesImmediate (c .lines) ≡ false
+  unfolding takesImmediate
+  no-immediate = ap (λ (t : Tells Named). namesI (t .value)) word ∙ single
+
+  judged-at-once : judgementOf Nothing c ≡ perform i 0
+  unfolding judgementOf
+  judged-at-once =
+      begun (strayPin (c .pins)) (busClash (c .pins)) (decodeOf (c .lines) .number) (takesImmediate (c .lines)) (namedBy (c .lines)) stray clash
+      (ap (λ (t : Tells Named). t .number) word) no-immediate named
+    where
+      begun : (five six : Bool) (number : ℕ) (immediate : Bool) (n : Named) → five ≡ false → six ≡ false → number ≡ 0 → immediate ≡ false → n ≡ i
+          → judged (refusal (check 5 five ∷ check 6 six ∷ check number (not (eqb number 0)) ∷ check 10 (pick immediate (ienHigh (c .pins)) false) ∷ []))
+          (pick immediate Wait (perform n 0))
+          ≡ perform i 0
+      begun five six number immediate n e f k t same = rw (e, f, k, t, same)
+
+  pub performs-at-once : cycleOf m c ≡ turnOf (perform i 0) m (latched (m .registers) (c .input) (c .pins)) c
+  unfolding cycleOf
+  performs-at-once =
+      let r = latched (m .registers) (c .input) (c .pins) in
+      ap (λ (w : Waiting). turnOf (judgementOf w c) m r c) idle ∙ ap (λ (j : Judgement). turnOf j m r c) judged-at-once
 
 -- IEN and SRE low: the destination, and the status, are written
 abbrev pub written : Mode → ℕ → Registers → Destination → Outcome → Registers
@@ -58,7 +88,7 @@ module _ (mode : Mode) (n k : ℕ) (r : Registers) (immediate pins : ℕ) (ien :
   abbrev holding : List ℕ → ℕ → ℕ → Registers
   holding ram acc status = record { ram = ram; acc = acc; latch = r .latch; status = status; waiting = Nothing }
 
-  writes : (e : Effect)
+  pub writes : (e : Effect)
       → settledOf mode k r e pins
       ≡ holding (ramAfter (e .destination) mode k (e .result) (r .ram)) (accAfter (e .destination) mode (e .result) (r .acc)) (e .status)
   unfolding settledOf

@@ -3,4 +3,5 @@ pub mod Courses
 pub mod Loop
 pub mod Starting
 pub mod Joined
+pub mod Leading
 pub mod Laws

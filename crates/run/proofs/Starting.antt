@@ -6,7 +6,7 @@ use mathlib.Core.Logic.{_↔_}
 use Prim.Native.Nat.{ℕ, _*_, _%_, _≤_}
 use native.Mathlib.Omega.{arith}
 use lib.Dec.{T, eqb, ltb}
-use borrow.Author.Tests.{eqb-true, eq-eqb, ltb-false, not-false}
+use borrow.Author.Tests.{eqb-true, eq-eqb, ltb-false, le-ltb, not-false}
 use Rattle.choice.specs.Checks.{check, refusal, clear}
 use Rattle.choice.specs.Tells.{refused}
 use Rattle.choice.proofs.Checks.{positive, cleared, exactly}
@@ -51,6 +51,11 @@ module _ (waiting : Waiting) (words room : ℕ) where
       let two = cleared 2 many (check 3 short ∷ check 4 unfit ∷ []) (positive 2 tt) (one .1) in
       let three = cleared 3 short (check 4 unfit ∷ []) (positive 3 tt) (two .1) in
       not-false (mayStart waiting) (cleared 4 unfit [] (positive 4 tt) (three .1) .0)
+
+  -- and where all that holds, none is given
+  pub clear-start : words % wordsPerCycle ≡ 0 → cyclesIn words ≤ mostCycles → wordsPerReport * cyclesIn words ≤ room → mayStart waiting ≡ true → given ≡ 0
+  clear-start even few fits may =
+      rw (eq-eqb (words % wordsPerCycle) 0 even, le-ltb mostCycles (cyclesIn words) few, le-ltb room (wordsPerReport * cyclesIn words) fits, may)
 
   -- 1: the words are no multiple of 3
   pub start-one : (given ≡ 1) ↔ (Unit {0} × (uneven ≡ true))

@@ -29,6 +29,11 @@ cyclesIn n = n / wordsPerCycle
 abbrev pub cyclesOf : List ℕ → List Words
 cyclesOf words = cyclesFrom words 0 (cyclesIn (length words))
 
+-- the words of some cycles, one after another
+abbrev pub wordsOf : List Words → List ℕ
+wordsOf [] = []
+wordsOf (c ∷ cycles) = c .lines ∷ c .input ∷ c .pins ∷ wordsOf cycles
+
 -- a report is four words
 abbrev pub wordsPerReport : ℕ
 wordsPerReport = 4

@@ -1,0 +1,17 @@
+-- Any number of cycles in sequence, none of them refused: what goes past the 4,096 of a run (document 02, §11).
+use mathlib.Core.Path.{_≡_}
+use mathlib.Core.List.{List, [], _∷_}
+use Rattle.choice.specs.Tells.{accepted}
+use Rattle.machine.specs.declared.Machine.{Machine}
+use Rattle.machine.specs.declared.Words.{Words}
+use Rattle.machine.specs.declared.Report.{Report}
+use Rattle.machine.specs.Cycles.{cycleOf}
+
+-- a cycle is accepted: its answer is a report
+abbrev pub Accepts : Machine → Words → Type 0
+Accepts m c = (r : Report) × (cycleOf m c .answer ≡ accepted r)
+
+-- each cycle is accepted from the machine that the one before it left, and the last leaves n
+abbrev pub Leads : Machine → List Words → Machine → Type 0
+Leads m [] n = m ≡ n
+Leads m (c ∷ cycles) n = Accepts m c × Leads (cycleOf m c .machine) cycles n
