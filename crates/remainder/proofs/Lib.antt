@@ -1,0 +1,10 @@
+pub mod Multiples
+pub mod Division
+pub mod Mirrors
+pub mod Cycles
+pub mod Messages
+pub mod Laws
+pub mod Unique
+pub mod Premises
+pub mod Checks
+pub mod Vectors
