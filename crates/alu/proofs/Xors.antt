@@ -44,3 +44,9 @@ xor-shl a b k =
 
 pub xor-back : (a b : ℕ) → bitXor (bitXor a b) b ≡ a
 xor-back a b = xor-assoc a b b ∙ ap (bitXor a) (xor-self b) ∙ xor-zero-r a
+
+pub xor-front : (a b : ℕ) → bitXor a (bitXor b a) ≡ b
+xor-front a b = xor-comm a (bitXor b a) ∙ xor-back b a
+
+pub xor-cancel : (a b c : ℕ) → bitXor a b ≡ bitXor a c → b ≡ c
+xor-cancel a b c e = sym (xor-front a b) ∙ ap (bitXor a) (xor-comm b a ∙ e ∙ xor-comm a c) ∙ xor-front a c

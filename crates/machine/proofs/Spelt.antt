@@ -1,9 +1,11 @@
--- Single cycles spelt out: that a word without an I operand is performed at once; what is written with IEN and SRE low, after a MOVE and
--- after a two-operand instruction; and that a word that may wait is completed.
+-- Single cycles spelt out: what is written with IEN and SRE low, after a MOVE, after a two-operand instruction, and after any word without an
+-- I operand, which is performed at once; and that a word that may wait is completed.
 use mathlib.Core.Path.{_≡_, refl, _∙_, sym, ap}
 use mathlib.Core.Bool.{Bool, true, false, not}
 use mathlib.Core.List.{List, [], _∷_}
-use Prim.Native.Nat.{ℕ}
+use Prim.Native.Nat.{ℕ, _%_}
+use native.Mathlib.Omega.{arith}
+use borrow.Author.Tests.{ne-eqb, eqb-true}
 use lib.Dec.{eqb}
 use Rattle.choice.specs.Pick.{pick}
 use Rattle.choice.specs.Checks.{check, refusal}
@@ -23,7 +25,7 @@ use Rattle.plan.specs.declared.Source.{Source}
 use Rattle.plan.specs.declared.Destination.{Destination}
 use Rattle.plan.specs.declared.Task.the-variants.{TwoOperand, OneOperand}
 use Rattle.plan.specs.declared.Plan.{Plan}
-use Rattle.plan.specs.Plans.{atWidth, one, two}
+use Rattle.plan.specs.Plans.{atWidth, one, two, planOf}
 use Rattle.machine.specs.declared.Waiting.{Waiting}
 use Rattle.machine.specs.declared.Waiting.the-variants.{Nothing, Held}
 use Rattle.machine.specs.declared.Registers.{Registers}
@@ -36,38 +38,9 @@ use Rattle.machine.specs.declared.Report.{Report}
 use Rattle.machine.specs.Pins.{ienHigh, bothLow, strayPin, busClash}
 use Rattle.machine.specs.Judging.{Judgement, Refuse, Wait, checksOf, judged, perform, judgementOf}
 use Rattle.machine.specs.Seeing.{viewOf, operandOf}
-use Rattle.machine.specs.Acting.{statusFor, outcomeFor, effectOf}
+use Rattle.machine.specs.Acting.{statusFor, outcomeFor, performedOf, effectOf}
 use Rattle.machine.specs.Settling.{latched, ramAfter, accAfter, settledOf}
-use Rattle.machine.specs.Cycles.{effectFrom, turnOf, cycleOf}
-
--- with nothing waiting, a cycle whose word is accepted and has no I operand, and whose pins are in order, performs the word's instruction
-module _ (m : Machine) (c : Words) (i : Named) (idle : m .registers .waiting ≡ Nothing) (stray : strayPin (c .pins) ≡ false)
-    (clash : busClash (c .pins) ≡ false) (word : decodeOf (c .lines) ≡ accepted i) (single : asksI (namedRow i) (i .a) (i .b) ≡ false) where
-  named : namedBy (c .lines) ≡ i
-  unfolding decodeOf
-  named = told-accepted (refusal (wordChecks (c .lines))) (namedBy (c .lines)) i word .1
-
-  no-immediate : takesImmediate (c .lines) ≡ false
-  unfolding takesImmediate
-  no-immediate = ap (λ (t : Tells Named). namesI (t .value)) word ∙ single
-
-  judged-at-once : judgementOf Nothing c ≡ perform i 0
-  unfolding judgementOf
-  judged-at-once =
-      begun (strayPin (c .pins)) (busClash (c .pins)) (decodeOf (c .lines) .number) (takesImmediate (c .lines)) (namedBy (c .lines)) stray clash
-      (ap (λ (t : Tells Named). t .number) word) no-immediate named
-    where
-      begun : (five six : Bool) (number : ℕ) (immediate : Bool) (n : Named) → five ≡ false → six ≡ false → number ≡ 0 → immediate ≡ false → n ≡ i
-          → judged (refusal (check 5 five ∷ check 6 six ∷ check number (not (eqb number 0)) ∷ check 10 (pick immediate (ienHigh (c .pins)) false) ∷ []))
-          (pick immediate Wait (perform n 0))
-          ≡ perform i 0
-      begun five six number immediate n e f k t same = rw (e, f, k, t, same)
-
-  pub performs-at-once : cycleOf m c ≡ turnOf (perform i 0) m (latched (m .registers) (c .input) (c .pins)) c
-  unfolding cycleOf
-  performs-at-once =
-      let r = latched (m .registers) (c .input) (c .pins) in
-      ap (λ (w : Waiting). turnOf (judgementOf w c) m r c) idle ∙ ap (λ (j : Judgement). turnOf j m r c) judged-at-once
+use Rattle.machine.specs.Cycles.{Turned, machineOf, effectFrom, turnOf, cycleOf}
 
 -- IEN and SRE low: the destination, and the status, are written
 abbrev pub written : Mode → ℕ → Registers → Destination → Outcome → Registers
@@ -88,7 +61,7 @@ module _ (mode : Mode) (n k : ℕ) (r : Registers) (immediate pins : ℕ) (ien :
   abbrev holding : List ℕ → ℕ → ℕ → Registers
   holding ram acc status = record { ram = ram; acc = acc; latch = r .latch; status = status; waiting = Nothing }
 
-  pub writes : (e : Effect)
+  writes : (e : Effect)
       → settledOf mode k r e pins
       ≡ holding (ramAfter (e .destination) mode k (e .result) (r .ram)) (accAfter (e .destination) mode (e .result) (r .acc)) (e .status)
   unfolding settledOf
@@ -121,6 +94,48 @@ module _ (mode : Mode) (n k : ℕ) (r : Registers) (immediate pins : ℕ) (ien :
   move-cycle x d =
       let p : Plan = record { mode = mode; n = n; register = k; work = atWidth (OneOperand Move) (one x) d } in
       writes (effectFrom p r immediate)
+
+-- with nothing waiting, a cycle whose word is accepted and has no I operand, and whose pins are in order, performs the word's instruction
+module _ (m : Machine) (c : Words) (i : Named) (idle : m .registers .waiting ≡ Nothing) (stray : strayPin (c .pins) ≡ false)
+    (clash : busClash (c .pins) ≡ false) (word : decodeOf (c .lines) ≡ accepted i) (single : asksI (namedRow i) (i .a) (i .b) ≡ false) where
+  named : namedBy (c .lines) ≡ i
+  unfolding decodeOf
+  named = told-accepted (refusal (wordChecks (c .lines))) (namedBy (c .lines)) i word .1
+
+  no-immediate : takesImmediate (c .lines) ≡ false
+  unfolding takesImmediate
+  no-immediate = ap (λ (t : Tells Named). namesI (t .value)) word ∙ single
+
+  judged-at-once : judgementOf Nothing c ≡ perform i 0
+  unfolding judgementOf
+  judged-at-once =
+      begun (strayPin (c .pins)) (busClash (c .pins)) (decodeOf (c .lines) .number) (takesImmediate (c .lines)) (namedBy (c .lines)) stray clash
+      (ap (λ (t : Tells Named). t .number) word) no-immediate named
+    where
+      begun : (five six : Bool) (number : ℕ) (immediate : Bool) (n : Named) → five ≡ false → six ≡ false → number ≡ 0 → immediate ≡ false → n ≡ i
+          → judged (refusal (check 5 five ∷ check 6 six ∷ check number (not (eqb number 0)) ∷ check 10 (pick immediate (ienHigh (c .pins)) false) ∷ []))
+          (pick immediate Wait (perform n 0))
+          ≡ perform i 0
+      begun five six number immediate n e f k t same = rw (e, f, k, t, same)
+
+  pub performs-at-once : cycleOf m c ≡ turnOf (perform i 0) m (latched (m .registers) (c .input) (c .pins)) c
+  unfolding cycleOf
+  performs-at-once =
+      let r = latched (m .registers) (c .input) (c .pins) in
+      ap (λ (w : Waiting). turnOf (judgementOf w c) m r c) idle ∙ ap (λ (j : Judgement). turnOf j m r c) judged-at-once
+
+  -- and with IEN and SRE low, its destination and the status take what its operation gives
+  pub leaves-at-once : bothLow (c .pins) ≡ true
+      → let p : Plan = planOf i in
+      let r : Registers = latched (m .registers) (c .input) (c .pins) in
+      cycleOf m c .machine ≡ machineOf (written (p .mode) (p .register) r (p .work .destination) (performedOf p (viewOf (p .mode) (p .register) r 0)))
+  unfolding effectOf viewOf
+  leaves-at-once low =
+      let p : Plan = planOf i in
+      let r : Registers = latched (m .registers) (c .input) (c .pins) in
+      let ien : ienHigh (c .pins) ≡ false = ne-eqb (c .pins % 2) 1 (λ o. omega (arith, eqb-true (c .pins % 4) 0 low)) in
+      ap (λ (t : Turned). t .machine) performs-at-once
+      ∙ ap machineOf (writes (p .mode) (p .n) (p .register) r 0 (c .pins) ien low (effectFrom p r 0))
 
 -- an accepted cycle with a word waiting completes that word's instruction
 module _ (m : Machine) (c : Words) (w : ℕ) where

@@ -1,9 +1,8 @@
 -- The two cycles of a bit: what each leaves.
-use mathlib.Core.Path.{_≡_, refl, sym, ap, ap₂, _∙_}
+use mathlib.Core.Path.{_≡_, refl, ap, ap₂, _∙_}
 use mathlib.Core.Bool.{Bool, true, false}
-use Prim.Native.Nat.{ℕ, _*_, _/_, _%_, _^_, _<_}
+use Prim.Native.Nat.{ℕ, _%_, _^_, _<_}
 use native.Mathlib.Omega.{arith}
-use borrow.Author.Tests.{ne-eqb, eqb-true}
 use lib.Bits.{bitAnd, bitOr}
 use lib.ListN.{getD, set}
 use Rattle.alu.specs.declared.Operation.{Operation}
@@ -12,6 +11,7 @@ use Rattle.alu.specs.Width.{bit, low, writeBack}
 use Rattle.alu.specs.Flags.{storedLINK}
 use Rattle.alu.specs.Operations.{crcForward, crcReverse, outcomeOf}
 use Rattle.alu.proofs.Bits.{bit-cases, bit-lt, bit-and, bit-or}
+use Rattle.alu.proofs.Written.{written-over}
 use Rattle.isa.specs.declared.Named.{Named}
 use Rattle.isa.specs.Words.{namedRow, asksI}
 use Rattle.plan.specs.declared.Plan.{Plan}
@@ -20,13 +20,11 @@ use Rattle.machine.specs.declared.Waiting.the-variants.{Nothing}
 use Rattle.machine.specs.declared.Registers.{Registers}
 use Rattle.machine.specs.declared.Machine.{Machine}
 use Rattle.machine.specs.declared.Words.{Words}
-use Rattle.machine.specs.declared.Effect.{Effect}
-use Rattle.machine.specs.Pins.{ienHigh, bothLow}
 use Rattle.machine.specs.Seeing.{registerAt, viewOf}
-use Rattle.machine.specs.Acting.{outcomeFor, effectOf}
-use Rattle.machine.specs.Settling.{latched, ramAfter, accAfter, settledOf}
-use Rattle.machine.specs.Cycles.{Turned, machineOf, effectFrom, cycleOf}
-use Rattle.machine.proofs.Spelt.{performs-at-once, writes}
+use Rattle.machine.specs.Acting.{outcomeFor, performedOf}
+use Rattle.machine.specs.Settling.{latched}
+use Rattle.machine.specs.Cycles.{Turned, machineOf, cycleOf}
+use Rattle.machine.proofs.Spelt.{performs-at-once, written, leaves-at-once}
 use Rattle.run.specs.Leading.{Accepts}
 use Rattle.remainder.specs.Remainder.{putInLink, Direction, forward, reverse, stepOn, Asks, digit, mirror, oriented}
 use Rattle.remainder.proofs.Division.{next-lt}
@@ -40,23 +38,12 @@ module _ (m : Machine) (c : Words) (i : Named) (idle : m .registers .waiting ≡
   abbrev before : Registers
   before = latched (m .registers) (c .input) (c .pins)
 
-  abbrev effect : Effect
-  effect = effectFrom plan before 0
-
   accepts : Accepts m c
   accepts = (_, ap (λ (t : Turned). t .answer) (performs-at-once m c i idle (asks .stray) (asks .clash) (asks .word) single))
 
-  leaves : cycleOf m c .machine ≡ machineOf (record {
-    ram = ramAfter (effect .destination) (plan .mode) (plan .register) (effect .result) (m .registers .ram);
-    acc = accAfter (effect .destination) (plan .mode) (effect .result) (m .registers .acc);
-    latch = before .latch;
-    status = effect .status;
-    waiting = Nothing;
-  })
-  leaves =
-      let ien : ienHigh (c .pins) ≡ false = ne-eqb (c .pins % 2) 1 (λ o. omega (arith, eqb-true (c .pins % 4) 0 (asks .low))) in
-      ap (λ (t : Turned). t .machine) (performs-at-once m c i idle (asks .stray) (asks .clash) (asks .word) single)
-      ∙ ap machineOf (writes (plan .mode) (plan .n) (plan .register) before 0 (c .pins) ien (asks .low) effect)
+  leaves : cycleOf m c .machine
+      ≡ machineOf (written (plan .mode) (plan .register) before (plan .work .destination) (performedOf plan (viewOf (plan .mode) (plan .register) before 0)))
+  leaves = leaves-at-once m c i idle (asks .stray) (asks .clash) (asks .word) single (asks .low)
 
 -- A bit is put into LINK, and nothing else changes but D.
 
@@ -83,7 +70,7 @@ module _ (m : Machine) (c : Words) (idle : m .registers .waiting ≡ Nothing) wh
     status = withBit b (m .registers .status);
     waiting = Nothing;
   })
-  unfolding planOf workOf effectOf outcomeFor viewOf
+  unfolding planOf workOf outcomeFor viewOf
   after-bit true asks = leaves m c (putInLink true) idle asks refl
   after-bit false asks = leaves m c (putInLink false) idle asks refl
 
@@ -108,10 +95,6 @@ abbrev operation : Direction → ℕ → ℕ → Operation
 operation forward register acc = CrcForward register acc
 operation reverse register acc = CrcReverse register acc
 
-pub oriented-lt : (d : Direction) (x : ℕ) → x < 2 ^ 16 → oriented d x < 2 ^ 16
-oriented-lt forward x h = h
-oriented-lt reverse x h = mirror-lt 16 x
-
 -- a word is seen whole
 seen : (x : ℕ) → x < 2 ^ 16 → low 16 (low 16 x) ≡ x
 seen x h = omega arith
@@ -125,13 +108,9 @@ step-result reverse p a status hp ha =
     ap₂ (λ (x y : ℕ). crcReverse 16 x y status .result) (seen (mirror 16 a) (mirror-lt 16 a)) (seen (mirror 16 p) (mirror-lt 16 p))
     ∙ mirrored-step 15 p a status
 
--- a word written over another
-over-word : (old x : ℕ) → old < 2 ^ 16 → x < 2 ^ 16 → writeBack 16 old x ≡ x
-unfolding writeBack
-over-word old x h k =
-    let a : old / 2 ^ 16 ≡ 0 = omega arith in
-    let b : x % 2 ^ 16 ≡ x = omega arith in
-    rw (a, b) (omega arith)
+pub oriented-lt : (d : Direction) (x : ℕ) → x < 2 ^ 16 → oriented d x < 2 ^ 16
+oriented-lt forward x h = h
+oriented-lt reverse x h = mirror-lt 16 x
 
 -- the word that a step writes, by the status, the register and ACC
 abbrev writtenBy : Direction → ℕ → ℕ → ℕ → ℕ
@@ -142,7 +121,7 @@ written-is : (d : Direction) (p a status : ℕ) → p < 2 ^ 16 → a < 2 ^ 16
 written-is d p a status hp ha =
     let next = crcForward 16 a p status .result in
     ap (writeBack 16 (oriented d a)) (step-result d p a status hp ha)
-    ∙ over-word (oriented d a) (oriented d next) (oriented-lt d a ha) (oriented-lt d next (next-lt p a status hp ha))
+    ∙ written-over 16 (oriented d a) (oriented d next) (oriented-lt d a ha) (oriented-lt d next (next-lt p a status hp ha))
 
 -- the status after it, which nothing here looks at
 abbrev statusBy : Direction → ℕ → ℕ → ℕ → ℕ
@@ -157,7 +136,7 @@ after-step : (d : Direction) (k : ℕ) (m : Machine) (c : Words) → m .register
       status = statusBy d (old .status) (getD (old .ram) j 0) (old .acc);
       waiting = Nothing;
     })
-unfolding planOf workOf effectOf outcomeFor viewOf
+unfolding planOf workOf outcomeFor viewOf
 after-step forward k m c idle asks = leaves m c (stepOn k forward) idle asks refl
 after-step reverse k m c idle asks = leaves m c (stepOn k reverse) idle asks refl
 

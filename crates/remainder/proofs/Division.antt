@@ -3,7 +3,7 @@
 use mathlib.Core.Path.{_≡_, sym, ap, ap₂, _∙_}
 use mathlib.Core.Bool.{Bool, true, false}
 use mathlib.Core.List.{List, [], _∷_, _++_}
-use Prim.Native.Nat.{ℕ, _+_, _*_, _/_, _%_, _^_, _<_}
+use Prim.Native.Nat.{ℕ, _+_, _*_, _%_, _^_, _<_}
 use native.Mathlib.Nat.{mod-lt}
 use native.Mathlib.Omega.{arith}
 use lib.Dec.{eqb}
@@ -14,13 +14,13 @@ use Rattle.choice.specs.Pick.{pick}
 use Rattle.alu.specs.Width.{bit}
 use Rattle.alu.specs.Flags.{storedLINK}
 use Rattle.alu.specs.Operations.{gated, movedUp, crcForward}
-use Rattle.alu.proofs.Bits.{bit-cases, bit-lt}
-use Rattle.alu.proofs.Xors.{xor-assoc, xor-shl}
+use Rattle.alu.proofs.Bits.{bit-cases}
+use Rattle.alu.proofs.Xors.{xor-assoc, xor-shl, xor-front}
 use Rattle.alu.proofs.Linear.{fed, fed-lt, step-is}
 use Rattle.remainder.specs.Remainder.{digit, messagePolynomial, dividend, divisor, product, Remainder}
-use Rattle.remainder.proofs.Multiples.{xor-front, longer, product-next}
+use Rattle.remainder.proofs.Multiples.{longer, product-next}
 
-pub digit-lt : (b : Bool) → digit b < 2
+digit-lt : (b : Bool) → digit b < 2
 digit-lt true = omega arith
 digit-lt false = omega arith
 

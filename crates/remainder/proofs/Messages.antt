@@ -11,7 +11,7 @@ use Rattle.machine.specs.declared.Registers.{Registers}
 use Rattle.machine.specs.declared.Machine.{Machine}
 use Rattle.machine.specs.declared.Words.{Words}
 use Rattle.machine.specs.Cycles.{cycleOf}
-use Rattle.run.specs.Leading.{Accepts, Leads}
+use Rattle.run.specs.Leading.{Leads}
 use Rattle.remainder.specs.Remainder.{putInLink, Direction, stepOn, Asks, Feeds, empty, next, oriented, Ready, Holds}
 use Rattle.remainder.proofs.Division.{no-bits, one-bit}
 use Rattle.remainder.proofs.Cycles.{Put, put, Stepped, stepped}

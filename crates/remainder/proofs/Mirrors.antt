@@ -7,7 +7,7 @@ use native.Mathlib.Numerals.{add-one}
 use native.Mathlib.Omega.{arith}
 use lib.Arith.{digits-lt, digits-div, digits-mod}
 use lib.Pow.{pow-pos, field, mod-mod-pow, shr-lt, shr-shr, split}
-use lib.Bits.{bitXor, xor-lt, xor-shr, xor-mod, xor-block}
+use lib.Bits.{bitXor, xor-shr, xor-mod, xor-block}
 use Rattle.alu.specs.Width.{bit}
 use Rattle.alu.specs.Flags.{storedLINK, plain, linked, withSign}
 use Rattle.alu.specs.Operations.{gated, movedUp, movedDown, crcStep, crcForward, crcReverse}
@@ -15,15 +15,12 @@ use Rattle.alu.proofs.Bits.{bit-cases, bit-lt, bit-shr, bit-lower, bit-upper}
 use Rattle.alu.proofs.Linear.{fed, fed-lt, step-is}
 use Rattle.remainder.specs.Remainder.{mirror}
 
-last-lt : (x : ℕ) → x % 2 < 2
-last-lt x = mod-lt x (zero-lt-suc 1)
-
 pub mirror-lt : (k x : ℕ) → mirror k x < 2 ^ k
 unfolding mirror
 mirror-lt zero x = pow-pos 0
 mirror-lt (suc k) x =
     let e : 2 * 2 ^ k ≡ 2 ^ suc k = omega (arith, pow-suc 2 k) in
-    subst (λ (size : ℕ). x % 2 * 2 ^ k + mirror k (x / 2) < size) e (digits-lt (last-lt x) (mirror-lt k (x / 2)))
+    subst (λ (size : ℕ). x % 2 * 2 ^ k + mirror k (x / 2) < size) e (digits-lt (mod-lt x (zero-lt-suc 1)) (mirror-lt k (x / 2)))
 
 -- bit by bit
 pub mirror-bit : (k i x : ℕ) → i < k → bit i (mirror k x) ≡ bit (k - 1 - i) x

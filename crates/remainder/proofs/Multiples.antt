@@ -2,29 +2,20 @@
 use mathlib.Core.Path.{_≡_, refl, sym, ap, ap₂, _∙_}
 use mathlib.Core.Bool.{Bool, true, false}
 use mathlib.Core.List.{List, [], _∷_, _++_}
-use Prim.Native.Nat.{ℕ, zero, suc, _+_, _*_, _/_, _%_, _^_, _<_}
+use Prim.Native.Nat.{ℕ, zero, suc, _+_, _*_, _%_, _^_, _<_}
 use native.Mathlib.Nat.{lt-of-lt-of-le, div-eq-of-lt, pow-suc}
 use native.Mathlib.Numerals.{add-one}
 use native.Mathlib.Omega.{arith}
 use lib.Pow.{pow-pos, pow-mono, shl-lt}
-use lib.Bits.{bitXor, xor-lt, xor-comm, xor-zero-l, xor-zero-r}
+use lib.Bits.{bitXor, xor-lt, xor-zero-l, xor-zero-r}
 use lib.ListN.{length, replicate, length-append, length-replicate}
 use Rattle.choice.specs.Pick.{pick}
 use Rattle.alu.specs.Width.{bit}
 use Rattle.alu.proofs.Bits.{bit-xor, bit-upper}
-use Rattle.alu.proofs.Xors.{xor-assoc, xor-shl, xor-back}
+use Rattle.alu.proofs.Xors.{xor-assoc, xor-shl, xor-cancel}
 use Rattle.remainder.specs.Remainder.{digit, divisor, product, Remainder}
 
--- a number put over another twice
-pub xor-front : (a b : ℕ) → bitXor a (bitXor b a) ≡ b
-xor-front a b = xor-comm a (bitXor b a) ∙ xor-back b a
-
--- the same number put over two makes them no more alike
-xor-cancel : (a b c : ℕ) → bitXor a b ≡ bitXor a c → b ≡ c
-xor-cancel a b c e =
-    sym (xor-front a b) ∙ ap (bitXor a) (xor-comm b a ∙ e ∙ xor-comm a c) ∙ xor-front a c
-
--- one bit more
+-- one bit more doubles the weight above a list
 pub longer : (bits : List Bool) (b : Bool) → 2 ^ length (bits ++ b ∷ []) ≡ 2 ^ length bits * 2
 longer bits b = ap (λ (n : ℕ). 2 ^ n) (length-append bits (b ∷ []) ∙ add-one (length bits)) ∙ pow-suc 2 (length bits)
 

@@ -1,6 +1,6 @@
 -- The premises can be met: every message has its cycles, every machine of 16-bit words with nothing waiting is ready for some start and
 -- polynomial, and a machine that a message has gone through is ready for the next.
-use mathlib.Core.Path.{_≡_, refl, sym, ap, _∙_}
+use mathlib.Core.Path.{_≡_, refl, sym, _∙_}
 use mathlib.Core.Bool.{Bool, true, false, not}
 use mathlib.Core.List.{List, [], _∷_}
 use Prim.Native.Nat.{ℕ, _^_, _<_}

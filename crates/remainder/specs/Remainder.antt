@@ -72,7 +72,7 @@ abbrev pub product : ℕ → List Bool → ℕ
 product p [] = 0
 product p (b ∷ bits) = bitXor (pick b (p * 2 ^ length bits) 0) (product p bits)
 
--- n is a multiple of p, which has degree 16, plus r, and r has a lower degree
+-- n is a multiple of p, which has degree 16, plus r, and r has a lower degree. There is one such r (`one-remainder`, proofs/Multiples)
 pub record Remainder (p n r : ℕ) : Type 0 where
   pub quotient : List Bool
   pub makes : bitXor (product p quotient) r ≡ n

@@ -1,8 +1,8 @@
 -- Cycles that are all accepted, as runs: with enough budget a run over them is done and ends where they lead; and the words of some cycles
 -- are split into those cycles.
-use mathlib.Core.Path.{_≡_, refl, sym, ap, _∙_}
+use mathlib.Core.Path.{_≡_, refl, ap, _∙_}
 use mathlib.Core.List.{List, [], _∷_}
-use Prim.Native.Nat.{ℕ, zero, suc, _+_, _*_, _/_, _≤_}
+use Prim.Native.Nat.{ℕ, zero, suc, _+_, _*_, _≤_}
 use native.Mathlib.Omega.{arith}
 use lib.ListN.{length, getD}
 use Rattle.choice.specs.Tells.{Tells, accepted}
