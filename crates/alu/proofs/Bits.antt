@@ -1,7 +1,7 @@
 -- Single bits of a number, and of numbers put together.
 use mathlib.Core.Path.{_≡_, refl, sym, ap, _∙_}
 use Prim.Native.Nat.{ℕ, zero, suc, _+_, _-_, _*_, _/_, _%_, _^_, _<_}
-use native.Mathlib.Nat.{mod-lt, zero-lt-suc, not-suc-le-zero, le-of-suc-le-suc}
+use native.Mathlib.Nat.{mod-lt, div-eq-of-lt, zero-lt-suc, not-suc-le-zero, le-of-suc-le-suc}
 use native.Mathlib.Omega.{arith}
 use lib.Pow.{pow-pos, pow-add, shr-lt, shr-shr, split, high, low as low-part, field, mod-mod-pow}
 use lib.Bits.{bitAnd, bitOr, bitXor, and-shr, or-shr, xor-shr, and-mod, or-mod, xor-mod}
@@ -38,6 +38,10 @@ bit-low w i x h =
 
 pub bit-shr : (j i x : ℕ) → bit i (x / 2 ^ j) ≡ bit (j + i) x
 bit-shr j i x = ap (λ (y : ℕ). y % 2) (shr-shr x j i)
+
+-- above all of a number's bits there is none
+pub bit-above : (i x : ℕ) → x < 2 ^ i → bit i x ≡ 0
+bit-above i x h = ap (λ (y : ℕ). y % 2) (div-eq-of-lt h)
 
 -- two parts, one above the other
 pub bit-lower : (k i hi lo : ℕ) → i < k → lo < 2 ^ k → bit i (hi * 2 ^ k + lo) ≡ bit i lo

@@ -114,10 +114,10 @@ gated-le : (f x : ℕ) → gated f x ≤ x
 gated-le zero x = zero-le
 gated-le (suc f) x = rw (eqb·suc-zero f) (le-refl x)
 
-gated-lt : (w f x : ℕ) → x < 2 ^ w → gated f x < 2 ^ w
+pub gated-lt : (w f x : ℕ) → x < 2 ^ w → gated f x < 2 ^ w
 gated-lt w f x h = omega (arith, gated-le f x)
 
-moved-up-lt : (w a coming : ℕ) → movedUp w a coming < 2 ^ w
+pub moved-up-lt : (w a coming : ℕ) → movedUp w a coming < 2 ^ w
 unfolding movedUp
 moved-up-lt w a coming = low-lt w (a * 2 + coming)
 

@@ -45,15 +45,15 @@ module _ (m : Machine) (c : Words) (i : Named) (idle : m .registers .waiting ≡
       ≡ machineOf (written (plan .mode) (plan .register) before (plan .work .destination) (performedOf plan (viewOf (plan .mode) (plan .register) before 0)))
   leaves = leaves-at-once m c i idle (asks .stray) (asks .clash) (asks .word) single (asks .low)
 
--- A bit is put into LINK, and nothing else changes but D.
+-- A bit is put into LINK, bit 4 of the status; nothing else changes but D.
 
 abbrev withBit : Bool → ℕ → ℕ
-withBit true status = bitOr status 16
-withBit false status = bitAnd status 239
+withBit true status = bitOr status 0x10
+withBit false status = bitAnd status 0xEF
 
 link-is : (b : Bool) (status : ℕ) → storedLINK (withBit b status) ≡ digit b
-link-is true status = bit-or 4 status 16 ∙ bit-cases (λ (x : ℕ). bitOr x 1 ≡ 1) refl refl (bit 4 status) (bit-lt 4 status)
-link-is false status = bit-and 4 status 239 ∙ bit-cases (λ (x : ℕ). bitAnd x 0 ≡ 0) refl refl (bit 4 status) (bit-lt 4 status)
+link-is true status = bit-or 4 status 0x10 ∙ bit-cases (λ (x : ℕ). bitOr x 1 ≡ 1) refl refl (bit 4 status) (bit-lt 4 status)
+link-is false status = bit-and 4 status 0xEF ∙ bit-cases (λ (x : ℕ). bitAnd x 0 ≡ 0) refl refl (bit 4 status) (bit-lt 4 status)
 
 pub record Put (b : Bool) (m : Machine) (c : Words) : Type 0 where
   pub accepts : Accepts m c
@@ -74,15 +74,15 @@ module _ (m : Machine) (c : Words) (idle : m .registers .waiting ≡ Nothing) wh
   after-bit true asks = leaves m c (putInLink true) idle asks refl
   after-bit false asks = leaves m c (putInLink false) idle asks refl
 
-  single-bit : (b : Bool) → asksI (namedRow (putInLink b)) (putInLink b .a) (putInLink b .b) ≡ false
-  single-bit true = refl
-  single-bit false = refl
+  bit-without-I : (b : Bool) → asksI (namedRow (putInLink b)) (putInLink b .a) (putInLink b .b) ≡ false
+  bit-without-I true = refl
+  bit-without-I false = refl
 
   pub put : (b : Bool) → Asks (putInLink b) c → Put b m c
   put b asks =
       let e = after-bit b asks in
       record {
-        accepts = accepts m c (putInLink b) idle asks (single-bit b);
+        accepts = accepts m c (putInLink b) idle asks (bit-without-I b);
         ram = ap (λ (n : Machine). n .registers .ram) e;
         acc = ap (λ (n : Machine). n .registers .acc) e;
         waiting = ap (λ (n : Machine). n .registers .waiting) e;
@@ -127,6 +127,7 @@ written-is d p a status hp ha =
 abbrev statusBy : Direction → ℕ → ℕ → ℕ → ℕ
 statusBy d status register acc = outcomeOf 16 (operation d (low 16 register) (low 16 acc)) status .status
 
+-- the plan's register is k modulo 32, and RAM is read and written modulo 32 once more
 after-step : (d : Direction) (k : ℕ) (m : Machine) (c : Words) → m .registers .waiting ≡ Nothing → Asks (stepOn k d) c
     → let old = m .registers in let j = k % 32 % 32 in
     cycleOf m c .machine ≡ machineOf (record {
@@ -140,9 +141,9 @@ unfolding planOf workOf outcomeFor viewOf
 after-step forward k m c idle asks = leaves m c (stepOn k forward) idle asks refl
 after-step reverse k m c idle asks = leaves m c (stepOn k reverse) idle asks refl
 
-single-step : (d : Direction) (k : ℕ) → asksI (namedRow (stepOn k d)) (stepOn k d .a) (stepOn k d .b) ≡ false
-single-step forward k = refl
-single-step reverse k = refl
+step-without-I : (d : Direction) (k : ℕ) → asksI (namedRow (stepOn k d)) (stepOn k d .a) (stepOn k d .b) ≡ false
+step-without-I forward k = refl
+step-without-I reverse k = refl
 
 -- register k takes the step's word, and no other register changes, nor ACC
 pub record Stepped (d : Direction) (k next : ℕ) (m : Machine) (c : Words) : Type 0 where
@@ -158,7 +159,7 @@ stepped d k p a m c idle asks hp ha register acc =
     let old = m .registers in
     let place : k % 32 % 32 ≡ k % 32 = omega arith in
     record {
-      accepts = accepts m c (stepOn k d) idle asks (single-step d k);
+      accepts = accepts m c (stepOn k d) idle asks (step-without-I d k);
       ram =
           ap (λ (n : Machine). n .registers .ram) e
           ∙ ap (λ (j : ℕ). set (old .ram) j (writtenBy d (old .status) (getD (old .ram) j 0) (old .acc))) place

@@ -1,10 +1,9 @@
--- A step of CRCF is a step of the division: a bit more of the message makes the dividend x times as large, and a multiple of the divisor is taken
--- off where the result would have x^16.
+-- A step of CRCF is a step of the division. One more bit multiplies the dividend by x and adds the bit times x^16; where that brings x^16 into the
+-- remainder, the divisor is subtracted.
 use mathlib.Core.Path.{_≡_, sym, ap, ap₂, _∙_}
 use mathlib.Core.Bool.{Bool, true, false}
 use mathlib.Core.List.{List, [], _∷_, _++_}
 use Prim.Native.Nat.{ℕ, _+_, _*_, _%_, _^_, _<_}
-use native.Mathlib.Nat.{mod-lt}
 use native.Mathlib.Omega.{arith}
 use lib.Dec.{eqb}
 use lib.Pow.{pow-pos}
@@ -15,6 +14,7 @@ use Rattle.alu.specs.Width.{bit}
 use Rattle.alu.specs.Flags.{storedLINK}
 use Rattle.alu.specs.Operations.{gated, movedUp, crcForward}
 use Rattle.alu.proofs.Bits.{bit-cases}
+use Rattle.alu.proofs.Shapes.{gated-lt, moved-up-lt}
 use Rattle.alu.proofs.Xors.{xor-assoc, xor-shl, xor-front}
 use Rattle.alu.proofs.Linear.{fed, fed-lt, step-is}
 use Rattle.remainder.specs.Remainder.{digit, messagePolynomial, dividend, divisor, product, Remainder}
@@ -31,11 +31,11 @@ polynomial-next [] b = omega arith
 polynomial-next (c ∷ bits) b =
     ap₂ (λ (size v : ℕ). digit c * size + v) (longer bits b) (polynomial-next bits b) ∙ omega arith
 
-dividend-next : (a : ℕ) (bits : List Bool) (b : Bool) → dividend a (bits ++ b ∷ []) ≡ bitXor (dividend a bits * 2) (digit b * 2 ^ 16)
-dividend-next a bits b =
-    ap₂ bitXor above message
-    ∙ sym (xor-assoc (a * 2 ^ m * 2) (v * 2 ^ 16 * 2) (digit b * 2 ^ 16))
-    ∙ ap (λ (x : ℕ). bitXor x (digit b * 2 ^ 16)) (xor-shl (a * 2 ^ m) (v * 2 ^ 16) 1)
+dividend-next : (start : ℕ) (bits : List Bool) (b : Bool) → dividend start (bits ++ b ∷ []) ≡ bitXor (dividend start bits * 2) (digit b * 2 ^ 16)
+dividend-next start bits b =
+    ap₂ bitXor start-part message-part
+    ∙ sym (xor-assoc (start * 2 ^ m * 2) (v * 2 ^ 16 * 2) (digit b * 2 ^ 16))
+    ∙ ap (λ (x : ℕ). bitXor x (digit b * 2 ^ 16)) (xor-shl (start * 2 ^ m) (v * 2 ^ 16) 1)
   where
     m : ℕ
     m = length bits
@@ -43,11 +43,11 @@ dividend-next a bits b =
     v : ℕ
     v = messagePolynomial bits
 
-    above : a * 2 ^ length (bits ++ b ∷ []) ≡ a * 2 ^ m * 2
-    above = ap (λ (size : ℕ). a * size) (longer bits b) ∙ omega arith
+    start-part : start * 2 ^ length (bits ++ b ∷ []) ≡ start * 2 ^ m * 2
+    start-part = ap (λ (size : ℕ). start * size) (longer bits b) ∙ omega arith
 
-    message : messagePolynomial (bits ++ b ∷ []) * 2 ^ 16 ≡ bitXor (v * 2 ^ 16 * 2) (digit b * 2 ^ 16)
-    message =
+    message-part : messagePolynomial (bits ++ b ∷ []) * 2 ^ 16 ≡ bitXor (v * 2 ^ 16 * 2) (digit b * 2 ^ 16)
+    message-part =
         let e : v * 2 * 2 ^ 16 ≡ v * 2 ^ 16 * 2 = omega arith in
         ap (λ (x : ℕ). x * 2 ^ 16) (polynomial-next bits b ∙ sym (xor-shifted v 1 (digit b) (digit-lt b)))
         ∙ sym (xor-shl (v * 2) (digit b) 16)
@@ -69,14 +69,10 @@ module _ (p a status : ℕ) (hp : p < 2 ^ 16) (ha : a < 2 ^ 16) where
   next = crcForward 16 a p status .result
 
   moved-lt : moved < 2 ^ 16
-  unfolding movedUp
-  moved-lt = mod-lt (a * 2 + 0) (pow-pos 16)
-
-  gated-lt : (f : ℕ) → f < 2 → gated f p < 2 ^ 16
-  gated-lt = bit-cases (λ (f : ℕ). gated f p < 2 ^ 16) (pow-pos 16) hp
+  moved-lt = moved-up-lt 16 a 0
 
   pub next-lt : next < 2 ^ 16
-  next-lt = rw (step-is 16 p a status) (xor-lt 16 moved (gated lead p) moved-lt (gated-lt lead (fed-lt 16 p a status)))
+  next-lt = rw (step-is 16 p a status) (xor-lt 16 moved (gated lead p) moved-lt (gated-lt 16 lead p hp))
 
   -- x times the register and the bit: what would stand at x^16, and the register moved up
   times-x : bitXor (a * 2) (link * 2 ^ 16) ≡ lead * 2 ^ 16 + moved
@@ -88,7 +84,7 @@ module _ (p a status : ℕ) (hp : p < 2 ^ 16) (ha : a < 2 ^ 16) where
       ∙ xor-block 16 (bit 15 a) link ((a * 2 + 0) % 2 ^ 16) 0 moved-lt (pow-pos 16)
       ∙ ap₂ (λ (x y : ℕ). x * 2 ^ 16 + y) (xor-comm (bit 15 a) link) (xor-zero-r ((a * 2 + 0) % 2 ^ 16))
 
-  -- the divisor, where it is taken off, brings that down
+  -- subtracting the divisor removes x^16
   taken-off : (f : ℕ) → f < 2 → bitXor (pick (eqb f 1) (divisor p) 0) (bitXor moved (gated f p)) ≡ f * 2 ^ 16 + moved
   taken-off = bit-cases (λ (f : ℕ). bitXor (pick (eqb f 1) (divisor p) 0) (bitXor moved (gated f p)) ≡ f * 2 ^ 16 + moved) none once
     where

@@ -2,7 +2,7 @@
 use mathlib.Core.Path.{_≡_, refl, ap, _∙_}
 use mathlib.Core.Bool.{Bool}
 use mathlib.Core.List.{List, [], _∷_, _++_, append-nil, append-assoc}
-use Prim.Native.Nat.{ℕ, _%_}
+use Prim.Native.Nat.{ℕ, _*_, _%_, _≤_}
 use native.Mathlib.Omega.{arith}
 use lib.ListN.{length, getD, set, length-set}
 use lib.Seq.{getD-set-same, getD-set-other}
@@ -11,10 +11,20 @@ use Rattle.machine.specs.declared.Registers.{Registers}
 use Rattle.machine.specs.declared.Machine.{Machine}
 use Rattle.machine.specs.declared.Words.{Words}
 use Rattle.machine.specs.Cycles.{cycleOf}
+use Rattle.run.specs.declared.Ending.the-variants.{Done}
+use Rattle.run.specs.declared.Ran.{Ran}
+use Rattle.run.specs.Splitting.{wordsPerReport, cycleWords}
+use Rattle.run.specs.Runs.{runOf, Gives}
 use Rattle.run.specs.Leading.{Leads}
+use Rattle.run.proofs.Leading.{leads-answer}
 use Rattle.remainder.specs.Remainder.{putInLink, Direction, stepOn, Asks, Feeds, empty, next, oriented, Ready, Holds}
 use Rattle.remainder.proofs.Division.{no-bits, one-bit}
 use Rattle.remainder.proofs.Cycles.{Put, put, Stepped, stepped}
+
+-- two cycles for each bit
+feeds-length : (d : Direction) (k : ℕ) (message : List Bool) (cycles : List Words) → Feeds d k message cycles → length cycles ≡ 2 * length message
+feeds-length d k [] [] empty = refl
+feeds-length d k (b ∷ message) (x ∷ y ∷ cycles) (next puts steps feeds) = omega (arith, feeds-length d k message cycles feeds)
 
 module _ (d : Direction) (k start polynomial : ℕ) (before : Registers) (ready : Ready d k start polynomial before) where
   -- after some bits
@@ -70,7 +80,7 @@ module _ (d : Direction) (k start polynomial : ℕ) (before : Registers) (ready 
       waiting = second .waiting;
     }
 
-  -- all of them
+  -- all of them, in sequence
   pub through : (bits message : List Bool) (cycles : List Words) (m : Machine) → After bits (m .registers) → Feeds d k message cycles
       → (n : Machine) × Leads m cycles n × After (bits ++ message) (n .registers)
   through bits [] [] m held empty = (m, refl, rw append-nil held)
@@ -80,3 +90,15 @@ module _ (d : Direction) (k start polynomial : ℕ) (before : Registers) (ready 
         (first bits b m x y held puts steps .accepts, (second bits b m x y held puts steps .accepts, more .1)),
         rw append-assoc at (more .2),
       )
+
+  -- and in a run
+  pub run-through : (bits message : List Bool) (cycles : List Words) (m : Machine) → After bits (m .registers) → Feeds d k message cycles
+      → (budget : ℕ) (reports after : List ℕ) (r : Ran)
+      → length message ≤ 2048 → 2 * length message ≤ budget → wordsPerReport * (2 * length message) ≤ length reports
+      → Gives m (runOf m (cycleWords cycles) budget (length reports)) r reports after
+      → (r .ending ≡ Done) × (r .accepted ≡ 2 * length message) × After (bits ++ message) (r .machine .registers)
+  run-through bits message cycles m held feeds budget reports after r few enough fits gives =
+      let long = feeds-length d k message cycles feeds in
+      let led = through bits message cycles m held feeds in
+      let ran = leads-answer m (led .0) cycles budget reports after r (held .waiting) (led .1) (omega arith) (omega arith) (omega arith) gives in
+      (ran .0, ran .1 ∙ long, rw (ran .2) (led .2))

@@ -103,13 +103,12 @@ module _ (k p a status : ℕ) where
   abbrev moved : ℕ
   moved = movedUp width a 0
 
+  -- the mirrored register moved down is the register moved up, mirrored; and the bit that leaves is the same
   down-is : movedDown width (mirror width a) 0 ≡ mirror width moved
   unfolding movedUp movedDown
   down-is =
-      ap (λ (x : ℕ). (0 + x) / 2) (mirror-top k a)
-      ∙ ap (λ (x : ℕ). x / 2) (omega arith)
-      ∙ digits-div (mirror k a) (bit-lt k a)
-      ∙ sym (mirror-low width (a * 2 + 0) ∙ mirror-up k a)
+      let e : 0 + mirror width a ≡ mirror k a * 2 + bit k a = omega (arith, mirror-top k a) in
+      ap (λ (x : ℕ). x / 2) e ∙ digits-div (mirror k a) (bit-lt k a) ∙ sym (mirror-low width (a * 2 + 0) ∙ mirror-up k a)
 
   out-is : mirror width a % 2 ≡ bit (width - 1) a
   out-is =

@@ -1,9 +1,9 @@
--- Multiples of a divisor of degree 16, and that it leaves one remainder.
+-- Multiples of a divisor of degree 16, and that no two numbers are its remainder.
 use mathlib.Core.Path.{_≡_, refl, sym, ap, ap₂, _∙_}
 use mathlib.Core.Bool.{Bool, true, false}
 use mathlib.Core.List.{List, [], _∷_, _++_}
-use Prim.Native.Nat.{ℕ, zero, suc, _+_, _*_, _%_, _^_, _<_}
-use native.Mathlib.Nat.{lt-of-lt-of-le, div-eq-of-lt, pow-suc}
+use Prim.Native.Nat.{ℕ, zero, suc, _+_, _*_, _^_, _<_}
+use native.Mathlib.Nat.{lt-of-lt-of-le, pow-suc}
 use native.Mathlib.Numerals.{add-one}
 use native.Mathlib.Omega.{arith}
 use lib.Pow.{pow-pos, pow-mono, shl-lt}
@@ -11,15 +11,15 @@ use lib.Bits.{bitXor, xor-lt, xor-zero-l, xor-zero-r}
 use lib.ListN.{length, replicate, length-append, length-replicate}
 use Rattle.choice.specs.Pick.{pick}
 use Rattle.alu.specs.Width.{bit}
-use Rattle.alu.proofs.Bits.{bit-xor, bit-upper}
+use Rattle.alu.proofs.Bits.{bit-xor, bit-above, bit-upper}
 use Rattle.alu.proofs.Xors.{xor-assoc, xor-shl, xor-cancel}
 use Rattle.remainder.specs.Remainder.{digit, divisor, product, Remainder}
 
--- one bit more doubles the weight above a list
+-- one bit more doubles 2 ^ length
 pub longer : (bits : List Bool) (b : Bool) → 2 ^ length (bits ++ b ∷ []) ≡ 2 ^ length bits * 2
 longer bits b = ap (λ (n : ℕ). 2 ^ n) (length-append bits (b ∷ []) ∙ add-one (length bits)) ∙ pow-suc 2 (length bits)
 
--- a bit after a quotient moves what it makes up by one place
+-- one bit more of a quotient: the product times x, plus the divisor if the bit is 1
 pub product-next : (p : ℕ) (bits : List Bool) (b : Bool) → product p (bits ++ b ∷ []) ≡ bitXor (product p bits * 2) (pick b p 0)
 product-next p [] true = omega (arith, xor-zero-r (p * 1), xor-zero-l p)
 product-next p [] false = refl
@@ -34,10 +34,6 @@ product-next p (c ∷ bits) b =
     moved : (c : Bool) → pick c (p * 2 ^ length (bits ++ b ∷ [])) 0 ≡ pick c (p * 2 ^ length bits) 0 * 2
     moved true = ap (λ (size : ℕ). p * size) (longer bits b) ∙ omega arith
     moved false = refl
-
--- a bit above all of a number's
-bit-above : (i x : ℕ) → x < 2 ^ i → bit i x ≡ 0
-bit-above i x h = ap (λ (y : ℕ). y % 2) (div-eq-of-lt h)
 
 digit-one : (b c : Bool) → digit b ≡ digit c → b ≡ c
 digit-one true true e = refl
@@ -88,7 +84,7 @@ module _ (p : ℕ) (hp : p < 2 ^ 16) where
       ∙ ap₂ bitXor (first-top b n) (bit-above (16 + n) (made bits r) (made-lt bits r h))
       ∙ xor-zero-r (digit b)
 
-  -- two quotients of one length that make the same have the same bits, and leave the same
+  -- two quotients of one length that make the same number leave the same remainder
   same-made : (qs ts : List Bool) (r s : ℕ) → length qs ≡ length ts → r < 2 ^ 16 → s < 2 ^ 16 → made qs r ≡ made ts s → r ≡ s
   same-made [] [] r s l hr hs e = e
   same-made [] (t ∷ ts) r s l hr hs e = absurd (omega arith)

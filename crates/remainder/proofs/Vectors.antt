@@ -1,14 +1,17 @@
 -- Two outside vectors, for the nine bytes "123456789": what is customarily called CRC-16/XMODEM leaves 31C3, and CRC-16/KERMIT, each byte's lowest bit
--- first and all in the mirror, leaves 2189. The quotients were worked out elsewhere; here they are only multiplied.
+-- first and by CRCR, leaves 2189. The quotients are given; the proof multiplies them.
 use mathlib.Core.Path.{_≡_, refl, ap, _∙_}
 use mathlib.Core.List.{List, [], _∷_}
 use Prim.Native.Nat.{ℕ}
 use native.Mathlib.Omega.{arith}
-use Rattle.machine.specs.declared.Registers.{Registers}
+use Rattle.machine.specs.declared.Machine.{Machine}
+use Rattle.machine.specs.declared.Words.{Words}
 use Rattle.machine.specs.Seeing.{registerAt}
-use Rattle.remainder.specs.Remainder.{forward, reverse, dividend, divisor, Remainder, mirror, Holds}
+use Rattle.run.specs.Leading.{Leads}
+use Rattle.remainder.specs.Remainder.{forward, reverse, Feeds, dividend, divisor, Remainder, mirror, Ready}
 use Rattle.remainder.specs.Bytes.{highFirst, lowFirst, bitsOf}
 use Rattle.remainder.proofs.Multiples.{one-remainder}
+use Rattle.remainder.proofs.Laws.{remainder-left}
 
 abbrev nine : List ℕ
 nine = 0x31 ∷ 0x32 ∷ 0x33 ∷ 0x34 ∷ 0x35 ∷ 0x36 ∷ 0x37 ∷ 0x38 ∷ 0x39 ∷ []
@@ -20,17 +23,27 @@ low-divided : Remainder (divisor 0x1021) (dividend 0 (bitsOf lowFirst nine)) 0x9
 low-divided = record { quotient = highFirst 72 0x841D1A31EE8856F104; makes = refl; small = omega arith }
 
 -- in the register, after the bytes have been put through it from 0
-module _ (k : ℕ) (before after : Registers) where
-  pub xmodem : Holds forward k 0 0x1021 (bitsOf highFirst nine) before after → registerAt after k ≡ 0x31C3
-  xmodem h = h .register ∙ one-remainder 0x1021 (omega arith) (dividend 0 (bitsOf highFirst nine)) (h .remainder) 0x31C3 (h .divided) high-divided
+module _ (k : ℕ) (cycles : List Words) (m : Machine) where
+  pub xmodem : Ready forward k 0 0x1021 (m .registers) → Feeds forward k (bitsOf highFirst nine) cycles
+      → (n : Machine) × Leads m cycles n × (registerAt (n .registers) k ≡ 0x31C3)
+  xmodem ready feeds =
+      let left = remainder-left forward k 0 0x1021 (bitsOf highFirst nine) cycles m ready feeds in
+      let h = left .2 in
+      (left .0, left .1, h .register ∙ one-remainder 0x1021 (omega arith) (dividend 0 (bitsOf highFirst nine)) (h .remainder) 0x31C3 (h .divided) high-divided)
 
-  -- ACC then has the mirror of 1021, which is 8408
-  pub kermit : Holds reverse k 0 0x1021 (bitsOf lowFirst nine) before after → registerAt after k ≡ 0x2189
+  pub kermit : Ready reverse k 0 0x1021 (m .registers) → Feeds reverse k (bitsOf lowFirst nine) cycles
+      → (n : Machine) × Leads m cycles n × (registerAt (n .registers) k ≡ 0x2189)
   unfolding mirror
-  kermit h =
-      h .register
-      ∙ ap (mirror 16) (one-remainder 0x1021 (omega arith) (dividend 0 (bitsOf lowFirst nine)) (h .remainder) 0x9184 (h .divided) low-divided)
+  kermit ready feeds =
+      let left = remainder-left reverse k 0 0x1021 (bitsOf lowFirst nine) cycles m ready feeds in
+      let h = left .2 in (
+        left .0,
+        left .1,
+        h .register
+            ∙ ap (mirror 16) (one-remainder 0x1021 (omega arith) (dividend 0 (bitsOf lowFirst nine)) (h .remainder) 0x9184 (h .divided) low-divided),
+      )
 
+-- where ACC has 8408
 pub mirrored-polynomial : mirror 16 0x1021 ≡ 0x8408
 unfolding mirror
 mirrored-polynomial = refl

@@ -5,15 +5,15 @@ use Prim.Native.Nat.{ℕ, zero, suc, _/_, _%_}
 use lib.Dec.{eqb}
 use Rattle.alu.specs.Width.{bit}
 
--- the low n bits of a byte, the highest of them first: the order of the check
+-- the low n bits of a number, the highest of them first: the order of the check
 abbrev pub highFirst : ℕ → ℕ → List Bool
-highFirst zero byte = []
-highFirst (suc n) byte = eqb (bit n byte) 1 ∷ highFirst n byte
+highFirst zero x = []
+highFirst (suc n) x = eqb (bit n x) 1 ∷ highFirst n x
 
 -- the lowest first: the order of the customary mirrored checks, which no document asks for
 abbrev pub lowFirst : ℕ → ℕ → List Bool
-lowFirst zero byte = []
-lowFirst (suc n) byte = eqb (byte % 2) 1 ∷ lowFirst n (byte / 2)
+lowFirst zero x = []
+lowFirst (suc n) x = eqb (x % 2) 1 ∷ lowFirst n (x / 2)
 
 -- the bits of some bytes, eight for each, in such an order
 abbrev pub bitsOf : (ℕ → ℕ → List Bool) → List ℕ → List Bool

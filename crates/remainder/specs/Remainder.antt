@@ -63,7 +63,7 @@ messagePolynomial (b ∷ bits) = digit b * 2 ^ length bits + messagePolynomial b
 abbrev pub dividend : ℕ → List Bool → ℕ
 dividend start message = bitXor (start * 2 ^ length message) (messagePolynomial message * 2 ^ 16)
 
--- x^16 and the polynomial that ACC has
+-- x^16 plus the polynomial in ACC
 abbrev pub divisor : ℕ → ℕ
 divisor polynomial = 2 ^ 16 + polynomial
 
@@ -72,7 +72,7 @@ abbrev pub product : ℕ → List Bool → ℕ
 product p [] = 0
 product p (b ∷ bits) = bitXor (pick b (p * 2 ^ length bits) 0) (product p bits)
 
--- n is a multiple of p, which has degree 16, plus r, and r has a lower degree. There is one such r (`one-remainder`, proofs/Multiples)
+-- n is a multiple of p, whose degree is 16, plus r, whose degree is lower. No two numbers are such an r (`one-remainder`, proofs/Multiples)
 pub record Remainder (p n r : ℕ) : Type 0 where
   pub quotient : List Bool
   pub makes : bitXor (product p quotient) r ≡ n
@@ -80,12 +80,12 @@ pub record Remainder (p n r : ℕ) : Type 0 where
 
 -- The mirror.
 
--- the low k bits of a word in the other order
+-- the low bits of a word, as many as its width, in reverse order
 unfoldable pub mirror : ℕ → ℕ → ℕ
 mirror zero x = 0
-mirror (suc k) x = x % 2 * 2 ^ k + mirror k (x / 2)
+mirror (suc width) x = x % 2 * 2 ^ width + mirror width (x / 2)
 
--- a word as it stands in the register and in ACC: for CRCR it is mirrored. The message is not
+-- a word as it stands in the register and in ACC: for CRCR it is mirrored. The message is never mirrored
 abbrev pub oriented : Direction → ℕ → ℕ
 oriented forward x = x
 oriented reverse x = mirror 16 x
@@ -103,7 +103,7 @@ pub record Ready (d : Direction) (k start polynomial : ℕ) (r : Registers) : Ty
   pub waiting : r .waiting ≡ Nothing
 
 -- the remainder is in register k; no other register has changed, nor has ACC, and nothing waits. Nothing is said of D, which DLE may have
--- changed, and of the status
+-- changed, or of the status
 pub record Holds (d : Direction) (k start polynomial : ℕ) (message : List Bool) (before after : Registers) : Type 0 where
   pub remainder : ℕ
   pub divided : Remainder (divisor polynomial) (dividend start message) remainder

@@ -14,18 +14,12 @@ use Rattle.machine.specs.Cycles.{cycleOf}
 use Rattle.machine.specs.Judging.{mayStart}
 use Rattle.run.specs.declared.Ending.the-variants.{Done}
 use Rattle.run.specs.declared.Ran.{Ran}
-use Rattle.run.specs.Splitting.{wordsPerCycle, cycleAt, cyclesFrom, cyclesIn, cyclesOf, wordsOf, wordsPerReport}
-use Rattle.run.specs.Courses.{Finish, done, Course, turnThen, runFrom, machineAfter}
+use Rattle.run.specs.Splitting.{wordsPerCycle, cycleAt, cyclesFrom, cyclesIn, cyclesOf, cycleWords, wordsPerReport}
+use Rattle.run.specs.Courses.{Finish, Course, turnThen, runFrom}
 use Rattle.run.specs.Runs.{mostCycles, startRefusal, runOf, Summary, placed, summaryOf, ranTells, Gives}
-use Rattle.run.specs.Leading.{Leads}
+use Rattle.run.specs.Leading.{Leads, DoneAt}
 use Rattle.run.proofs.Starting.{clear-start, started}
 use Rattle.run.proofs.Laws.{ending-one}
-
--- a course over cycles from m: done, with a step for each, and n after them
-pub record DoneAt (m : Machine) (cycles : List Words) (n : Machine) (c : Course) : Type 0 where
-  pub close : c .close ≡ accepted done
-  pub steps : length (c .steps) ≡ length cycles
-  pub machine : machineAfter m (c .steps) ≡ n
 
 stepped : (m next n : Machine) (x : Words) (cycles : List Words) (answer : Tells Report) (r : Report) (c : Course) → answer ≡ accepted r
     → DoneAt next cycles n c → DoneAt m (x ∷ cycles) n (turnThen answer next c)
@@ -40,11 +34,11 @@ leads-run m n (c ∷ cycles) (suc budget) h l =
     stepped m next n c cycles (cycleOf m c .answer) (l .0 .0) (runFrom next budget cycles) (l .0 .1) (leads-run next n cycles budget (omega arith) (l .1))
 
 -- the words of cycles
-pub words-length : (cycles : List Words) → length (wordsOf cycles) ≡ wordsPerCycle * length cycles
+pub words-length : (cycles : List Words) → length (cycleWords cycles) ≡ wordsPerCycle * length cycles
 words-length [] = refl
 words-length (c ∷ cycles) = omega (arith, words-length cycles)
 
-pub cycles-in : (cycles : List Words) → cyclesIn (length (wordsOf cycles)) ≡ length cycles
+pub cycles-in : (cycles : List Words) → cyclesIn (length (cycleWords cycles)) ≡ length cycles
 cycles-in cycles = omega (arith, words-length cycles)
 
 -- past the words of the first cycle stand those of the others
@@ -61,21 +55,21 @@ later-from : (c : Words) (words : List ℕ) (i n : ℕ) → cyclesFrom (c .lines
 later-from c words i zero = refl
 later-from c words i (suc n) = rw (later-at c words i, later-from c words (i + 1) n)
 
-split-from : (cycles : List Words) → cyclesFrom (wordsOf cycles) 0 (length cycles) ≡ cycles
+split-from : (cycles : List Words) → cyclesFrom (cycleWords cycles) 0 (length cycles) ≡ cycles
 split-from [] = refl
-split-from (c ∷ cycles) = ap (λ (l : List Words). c ∷ l) (later-from c (wordsOf cycles) 0 (length cycles) ∙ split-from cycles)
+split-from (c ∷ cycles) = ap (λ (l : List Words). c ∷ l) (later-from c (cycleWords cycles) 0 (length cycles) ∙ split-from cycles)
 
-pub words-split : (cycles : List Words) → cyclesOf (wordsOf cycles) ≡ cycles
-words-split cycles = ap (cyclesFrom (wordsOf cycles) 0) (cycles-in cycles) ∙ split-from cycles
+pub words-split : (cycles : List Words) → cyclesOf (cycleWords cycles) ≡ cycles
+words-split cycles = ap (cyclesFrom (cycleWords cycles) 0) (cycles-in cycles) ∙ split-from cycles
 
 -- so the answer of a run over the words of such cycles, from nothing waiting
 pub leads-answer : (m n : Machine) (cycles : List Words) (budget : ℕ) (before after : List ℕ) (r : Ran) → m .registers .waiting ≡ Nothing → Leads m cycles n
     → length cycles ≤ mostCycles → wordsPerReport * length cycles ≤ length before → length cycles ≤ budget
-    → Gives m (runOf m (wordsOf cycles) budget (length before)) r before after
+    → Gives m (runOf m (cycleWords cycles) budget (length before)) r before after
     → (r .ending ≡ Done) × (r .accepted ≡ length cycles) × (r .machine ≡ n)
 unfolding mayStart
 leads-answer m n cycles budget before after r idle leads few fits enough gives =
-    let words = wordsOf cycles in
+    let words = cycleWords cycles in
     let many = cycles-in cycles in
     let clear : startRefusal m words (length before) ≡ 0 =
     clear-start (m .registers .waiting) (length words) (length before) (omega (arith, words-length cycles)) (omega arith) (omega arith) (ap mayStart idle) in

@@ -30,9 +30,9 @@ abbrev pub cyclesOf : List ℕ → List Words
 cyclesOf words = cyclesFrom words 0 (cyclesIn (length words))
 
 -- the words of some cycles, one after another
-abbrev pub wordsOf : List Words → List ℕ
-wordsOf [] = []
-wordsOf (c ∷ cycles) = c .lines ∷ c .input ∷ c .pins ∷ wordsOf cycles
+abbrev pub cycleWords : List Words → List ℕ
+cycleWords [] = []
+cycleWords (c ∷ cycles) = c .lines ∷ c .input ∷ c .pins ∷ cycleWords cycles
 
 -- a report is four words
 abbrev pub wordsPerReport : ℕ
