@@ -92,7 +92,8 @@ oriented reverse x = mirror 16 x
 
 -- Before and after.
 
--- the start is in register k and the polynomial in ACC, and nothing waits
+-- the start is in register k and the polynomial in ACC, both as they stand there, and nothing waits. Every machine of the code has 32 registers,
+-- and words of 16 bits
 pub record Ready (d : Direction) (k start polynomial : ℕ) (r : Registers) : Type 0 where
   pub address : k < 32
   pub size : length (r .ram) ≡ 32
@@ -102,8 +103,8 @@ pub record Ready (d : Direction) (k start polynomial : ℕ) (r : Registers) : Ty
   pub acc : r .acc ≡ oriented d polynomial
   pub waiting : r .waiting ≡ Nothing
 
--- the remainder is in register k; no other register has changed, nor has ACC, and nothing waits. Nothing is said of D, which DLE may have
--- changed, or of the status
+-- the remainder is in register k, as it stands there; no other register has changed, nor has ACC, and nothing waits. Nothing is said of D, which
+-- DLE may have changed, or of the status
 pub record Holds (d : Direction) (k start polynomial : ℕ) (message : List Bool) (before after : Registers) : Type 0 where
   pub remainder : ℕ
   pub divided : Remainder (divisor polynomial) (dividend start message) remainder
