@@ -21,6 +21,7 @@ use Rattle.run.specs.Leading.{Leads, DoneAt}
 use Rattle.run.proofs.Starting.{clear-start, started}
 use Rattle.run.proofs.Laws.{ending-one}
 
+-- one accepted cycle before a course
 stepped : (m next n : Machine) (x : Words) (cycles : List Words) (answer : Tells Report) (r : Report) (c : Course) → answer ≡ accepted r
     → DoneAt next cycles n c → DoneAt m (x ∷ cycles) n (turnThen answer next c)
 stepped m next n x cycles answer r c e h = rw e (record { close = h .close; steps = ap suc (h .steps); machine = h .machine })
@@ -33,12 +34,12 @@ leads-run m n (c ∷ cycles) (suc budget) h l =
     let next = cycleOf m c .machine in
     stepped m next n c cycles (cycleOf m c .answer) (l .0 .0) (runFrom next budget cycles) (l .0 .1) (leads-run next n cycles budget (omega arith) (l .1))
 
--- the words of cycles
-pub words-length : (cycles : List Words) → length (cycleWords cycles) ≡ wordsPerCycle * length cycles
+-- how many words cycles have
+words-length : (cycles : List Words) → length (cycleWords cycles) ≡ wordsPerCycle * length cycles
 words-length [] = refl
 words-length (c ∷ cycles) = omega (arith, words-length cycles)
 
-pub cycles-in : (cycles : List Words) → cyclesIn (length (cycleWords cycles)) ≡ length cycles
+cycles-in : (cycles : List Words) → cyclesIn (length (cycleWords cycles)) ≡ length cycles
 cycles-in cycles = omega (arith, words-length cycles)
 
 -- past the words of the first cycle stand those of the others
@@ -62,7 +63,7 @@ split-from (c ∷ cycles) = ap (λ (l : List Words). c ∷ l) (later-from c (cyc
 pub words-split : (cycles : List Words) → cyclesOf (cycleWords cycles) ≡ cycles
 words-split cycles = ap (cyclesFrom (cycleWords cycles) 0) (cycles-in cycles) ∙ split-from cycles
 
--- so the answer of a run over the words of such cycles, from nothing waiting
+-- the answer of a run over the words of cycles that are all accepted, from nothing waiting
 pub leads-answer : (m n : Machine) (cycles : List Words) (budget : ℕ) (before after : List ℕ) (r : Ran) → m .registers .waiting ≡ Nothing → Leads m cycles n
     → length cycles ≤ mostCycles → wordsPerReport * length cycles ≤ length before → length cycles ≤ budget
     → Gives m (runOf m (cycleWords cycles) budget (length before)) r before after
