@@ -5,3 +5,5 @@ pub mod Paged
 pub mod Shown
 mod Worded
 pub mod ReadBack
+pub mod Unlisted
+pub mod Longest

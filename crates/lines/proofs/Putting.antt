@@ -1,5 +1,5 @@
 -- Text put together piece by piece.
-use mathlib.Core.Path.{_≡_, refl, ap, subst, _∙_}
+use mathlib.Core.Path.{_≡_, refl, sym, ap, subst, _∙_}
 use mathlib.Core.List.{List, [], _∷_, _++_, append-assoc}
 use Prim.Native.Nat.{ℕ, suc, _+_, _-_, _≤_, _<_}
 use native.Mathlib.Numerals.{add-one}
@@ -68,3 +68,7 @@ puts-field field {rest = rest} {p = p} {r = r} {x = x} {z = z} f g = subst (λ (
 -- a line that was put together, handed over
 pub line-made : {text : List ℕ} {end : ℕ} {start line : List ℕ} {r : Line} {before after : List ℕ} → Puts text 0 end start line → Makes (take end line) r before after → Makes text r before after
 line-made p m = makes-as (p .put) m
+
+-- text that goes by a value, which is known
+pub puts-by : {A : Type 0} (text : A → List ℕ) {x y : A} {p r : ℕ} {before after : List ℕ} → x ≡ y → Puts (text y) p r before after → Puts (text x) p r before after
+puts-by {A = A} text {p = p} {r = r} {before = before} {after = after} e f = subst (λ (z : A). Puts (text z) p r before after) (sym e) f

@@ -4,3 +4,4 @@ pub mod Answers
 pub mod Putting
 pub mod Pages
 pub mod Words
+pub mod Remarks

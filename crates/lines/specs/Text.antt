@@ -1,5 +1,7 @@
--- Numbers as text, in ASCII (document 01, examples).
+-- Numbers as text, in ASCII (document 01, examples), and quoted text as bytes.
 use Prim.Native.Nat.{ℕ, zero, suc, _+_, _/_, _%_}
+use Prim.Native.String.{String, [] as empty, _∷_ as _before_}
+use Prim.Native.Char.{code}
 use mathlib.Core.List.{List, [], _∷_, _++_}
 use lib.Dec.{eqb, ltb}
 use Rattle.choice.specs.Pick.{pick}
@@ -45,3 +47,8 @@ decimal x = trimmed (numeral 10 longest x)
 -- a digit where x is below a limit, which is at most 16, and "-" for none
 abbrev pub digitOrNone : ℕ → ℕ → ℕ
 digitOrNone limit x = pick (ltb x limit) (digit x) dash
+
+-- quoted text
+abbrev pub ascii : String → List ℕ
+ascii empty = []
+ascii (c before text) = code c ∷ ascii text

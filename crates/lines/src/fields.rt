@@ -79,8 +79,8 @@ pub(crate) fn put_digit(x: u16, limit: u16, last: u8, at: usize, line: &mut [u8]
     at + 2
 }
 
-// The made line into the slice, if there is room.
-pub(crate) fn hand_over(text: &[u8], out: &mut [u8]) -> Line
+// Text that was made into the slice, if there is room.
+pub fn hand_over(text: &[u8], out: &mut [u8]) -> Line
     ensures { λ r. ⌜ Makes (now (text .entry)) r (now (out .entry)) (now (out .exit)) ⌝ }
 {
     let n = text.len();

@@ -1,13 +1,26 @@
-// The lines that are printed, of a run and of a trace, as text in ASCII. A line is made in full before any of it is handed over.
+// The lines that are printed, of a run and of a trace, and what is said to a person, as text in ASCII. A line is made in full before any of
+// it is handed over.
 mod digits; // digits.rt: numbers into digits
 mod fields; // fields.rt: the fields of a line, one after another
 mod page; // page.rt: which line comes when
+mod remarks; // remarks.rt: what is said to a person
 mod words; // words.rt: a trace as text
 
 use machine::Registers;
 use machine::Waiting;
+pub use fields::hand_over;
+pub use page::CYCLE_BYTES;
+pub use page::LAST_BYTES;
+pub use page::LINES_BESIDE_CYCLES;
+pub use page::REGISTERS;
+pub use page::REGISTER_BYTES;
+pub use page::STATE_BYTES;
 pub use page::page_line;
+pub use remarks::REMARK_BYTES;
+pub use remarks::remark_line;
 use run::Ending;
+pub use words::FAULT_BYTES;
+pub use words::WORDS_BYTES;
 pub use words::fault_line;
 pub use words::words_line;
 ghost use mathlib.Core.List.{[], _∷_, _++_};
@@ -22,6 +35,24 @@ ghost use Rattle.lines.specs.Answers.{Makes};
 pub enum Line {
     Made(usize),
     NoRoom,
+}
+
+// The programs that are named.
+pub enum Program {
+    RunTrace,
+    PackTrace,
+    UnpackTrace,
+}
+
+// What there is to say: input or output failed, a run ends with this word waiting, a text begins with a byte order mark, this many of its
+// bad lines are not named, or a refusal: its number, the index of its block or cycle, and that cycle's instruction word and pins.
+pub enum Remark {
+    NoInput,
+    NoOutput,
+    Waits(u16),
+    Marked,
+    Unnamed(u64),
+    Refusal(u8, usize, u16, u16),
 }
 
 // Room for the longest line.

@@ -10,7 +10,19 @@ ghost use Rattle.run.specs.Splitting.{wordsPerReport};
 ghost use Rattle.lines.specs.Answers.{Makes};
 ghost use Rattle.lines.specs.Pages.{reportLine, pageOf};
 
-const REGISTERS: usize = 32;
+// The lines of a page besides those of its cycles: the state, the registers and the end.
+pub const LINES_BESIDE_CYCLES: usize = REGISTERS + 2;
+
+pub const REGISTERS: usize = 32;
+
+// The most bytes of a line: of one of the first 10,000 cycles, of the state, of a register, and of the end.
+pub const CYCLE_BYTES: usize = 19;
+
+pub const STATE_BYTES: usize = 32;
+
+pub const REGISTER_BYTES: usize = 9;
+
+pub const LAST_BYTES: usize = 53;
 
 // A word of report `index`, 0 where the reports do not have it.
 fn report_word(reports: &[u16], index: usize, word: usize) -> u16

@@ -14,10 +14,10 @@ ghost use Rattle.lines.specs.Answers.{Makes};
 ghost use Rattle.lines.specs.Putting.{Puts};
 ghost use Rattle.lines.specs.Words.{wordsText, wordsLine, expectedText, faultLine};
 
-// Room for the longest line of words, and for the longest fault.
-const LONGEST_WORDS: usize = 5 * WORDS_PER_LINE;
+// The most bytes of a line of words, and of a fault.
+pub const WORDS_BYTES: usize = 5 * WORDS_PER_LINE;
 
-const LONGEST_FAULT: usize = 96;
+pub const FAULT_BYTES: usize = 85;
 
 // What stands after a word, `next` words having stood so far.
 fn after_word(next: usize, count: usize) -> u8
@@ -50,7 +50,7 @@ pub fn words_line(words: &[u16], index: usize, out: &mut [u8]) -> Line
         return Line::Made(0);
     }
     let from = WORDS_PER_LINE * index;
-    let mut line = [0u8; LONGEST_WORDS];
+    let mut line = [0u8; WORDS_BYTES];
     let end = put_words(&words[from..from + WORDS_PER_LINE], &mut line);
     fields::hand_over(&line[..end], out)
 }
@@ -72,7 +72,7 @@ pub fn fault_line(fault: Fault, out: &mut [u8]) -> Line
     ensures { λ r. ⌜ Makes (faultLine fault) r (now (out .entry)) (now (out .exit)) ⌝ }
 {
     let expected = fault.expected;
-    let mut line = [0u8; LONGEST_FAULT];
+    let mut line = [0u8; FAULT_BYTES];
     let mut at = fields::put_text(b"line ", 0, &mut line);
     at = fields::put_decimal(fault.line, b',', at, &mut line);
     at = fields::put_text(b" column ", at, &mut line);

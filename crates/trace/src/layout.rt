@@ -24,5 +24,13 @@ pub(crate) const CHECK_LOW_AT: usize = CHECK_AT + 1;
 pub(crate) const MOST_BLOCKS: usize = (MOST_CYCLES * WORDS_PER_RECORD + ONE_WORD_LESS)
     / BLOCK_WORDS;
 
-// The bytes of one block more.
-pub(crate) const TOO_LONG: usize = (MOST_BLOCKS + 1) * BLOCK_BYTES;
+// The most bytes of a trace, and those of one block more.
+pub const TRACE_BYTES: usize = MOST_BLOCKS * BLOCK_BYTES;
+
+pub(crate) const TOO_LONG: usize = TRACE_BYTES + BLOCK_BYTES;
+
+// Room for what is kept of an input of any length.
+pub const INPUT_BYTES: usize = TOO_LONG + BLOCK_BYTES;
+
+// The words of the most cycles.
+pub const CYCLE_WORDS: usize = WORDS_PER_RECORD * MOST_CYCLES;

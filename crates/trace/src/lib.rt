@@ -7,9 +7,12 @@ mod making; // making.rt: words into blocks
 
 use layout::BLOCK_BYTES;
 use layout::BLOCK_WORDS;
+pub use layout::CYCLE_WORDS;
+pub use layout::INPUT_BYTES;
 use layout::MOST_BLOCKS;
 use layout::ONE_WORD_LESS;
 use layout::TOO_LONG;
+pub use layout::TRACE_BYTES;
 use layout::WORDS_PER_RECORD;
 use run::MOST_CYCLES;
 ghost use mathlib.Core.Path.{_≡_};

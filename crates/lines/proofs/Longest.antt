@@ -1,0 +1,96 @@
+-- How long a line can be.
+use mathlib.Core.Path.{_≡_, refl, ap, _∙_}
+use mathlib.Core.Bool.{Bool, true, false}
+use mathlib.Core.List.{List, [], _∷_, _++_}
+use Prim.Native.Nat.{ℕ, _+_, _*_, _/_, _%_, _≤_, _<_}
+use native.Mathlib.Omega.{arith}
+use lib.Dec.{eqb, ltb}
+use lib.ListN.{length, take, drop, length-append, length-take}
+use Rattle.choice.specs.Pick.{pick}
+use Rattle.text.specs.declared.Expected.{Expected}
+use Rattle.text.specs.declared.Expected.the-variants.{Digit, Blank, Word, LineEnd}
+use Rattle.text.specs.declared.Fault.{Fault}
+use Rattle.text.specs.Lines.{wordsPerLine}
+use Rattle.machine.specs.declared.Waiting.{Waiting}
+use Rattle.machine.specs.declared.Waiting.the-variants.{Nothing, Held}
+use Rattle.machine.specs.declared.Registers.{Registers}
+use Rattle.run.specs.declared.Ending.{Ending}
+use Rattle.run.specs.declared.Ending.the-variants.{Done, Stopped, Refused}
+use Rattle.lines.specs.Text.{digit, numeral, hex, trimmed, longest, decimal}
+use Rattle.lines.specs.Lines.{lineOf, cycleLine, stateLine, registerLine, refusedLine, lastLine}
+use Rattle.lines.specs.Words.{afterWord, wordsText, wordsLine, expectedText, faultLine}
+use Rattle.lines.proofs.Spelled.{length-trimmed}
+
+-- a number has at most 20 digits, and one below 10,000 at most four
+trimmed-le : (digits : List ℕ) → length (trimmed digits) ≤ length digits
+trimmed-le [] = omega arith
+trimmed-le (d ∷ digits) = length-trimmed d digits .1
+
+decimal-le : (x : ℕ) → length (decimal x) ≤ 20
+unfolding decimal
+decimal-le x = trimmed-le (numeral 10 longest x)
+
+decimal-four : (x : ℕ) → x < 10000 → length (decimal x) ≤ 4
+unfolding decimal
+decimal-four x h =
+    let none : x / 10 / 10 / 10 / 10 ≡ 0 = omega arith in
+    rw none (trimmed-le (digit (x / 10 / 10 / 10 % 10) ∷ digit (x / 10 / 10 % 10) ∷ digit (x / 10 % 10) ∷ digit (x % 10) ∷ []))
+
+pub cycle-line-le : (number y mask ct t : ℕ) → number < 10000 → length (cycleLine number y mask ct t) ≤ 19
+unfolding hex cycleLine
+cycle-line-le number y mask ct t h = rw (length-append (decimal number)) (omega (arith, decimal-four number h))
+
+pub state-line-le : (r : Registers) → length (stateLine r) ≤ 32
+unfolding hex stateLine
+state-line-le r = by-waiting (r .waiting)
+  where
+    by-waiting : (w : Waiting) → length (stateLine (record { ram = r .ram; acc = r .acc; latch = r .latch; status = r .status; waiting = w })) ≤ 32
+    by-waiting Nothing = omega arith
+    by-waiting (Held w) = omega arith
+
+pub register-line-le : (number value : ℕ) → length (registerLine number value) ≤ 9
+unfolding hex registerLine
+register-line-le number value = by-test (eqb value 0)
+  where
+    by-test : (b : Bool) → length (pick b [] (lineOf (114 ∷ numeral 10 2 number) (hex 4 value ∷ []))) ≤ 9
+    by-test true = omega arith
+    by-test false = omega arith
+
+pub refused-line-le : (number index : ℕ) → length (refusedLine number index) ≤ 53
+unfolding refusedLine
+refused-line-le number index = rw (length-append (decimal number), length-append (decimal index)) (omega (arith, decimal-le number, decimal-le index))
+
+pub last-line-le : (e : Ending) (accepted : ℕ) → length (lastLine e accepted) ≤ 53
+unfolding lastLine
+last-line-le Done accepted = rw (length-append (decimal accepted)) (omega (arith, decimal-le accepted))
+last-line-le Stopped accepted = rw (length-append (decimal accepted)) (omega (arith, decimal-le accepted))
+last-line-le (Refused number index) accepted = refused-line-le number index
+
+-- a word takes five bytes of a line of words
+words-text-long : (words : List ℕ) → length (wordsText words) ≡ 5 * length words
+unfolding hex
+words-text-long [] = refl
+words-text-long (x ∷ words) = rw (length-append (hex 4 x ++ afterWord words ∷ []) (wordsText words)) (omega (arith, words-text-long words))
+
+pub words-line-le : (words : List ℕ) (i : ℕ) → length (wordsLine words i) ≤ 15
+unfolding wordsLine
+words-line-le words i = by-test (ltb i (length words / wordsPerLine))
+  where
+    line : List ℕ
+    line = take wordsPerLine (drop (wordsPerLine * i) words)
+
+    by-test : (b : Bool) → length (pick b (wordsText line) []) ≤ 15
+    by-test true = rw (words-text-long line) (simp length-take (omega arith))
+    by-test false = omega arith
+
+expected-le : (e : Expected) → length (expectedText e) ≤ 20
+expected-le Digit = omega arith
+expected-le Blank = omega arith
+expected-le Word = omega arith
+expected-le LineEnd = omega arith
+
+pub fault-line-le : (f : Fault) → length (faultLine f) ≤ 85
+unfolding faultLine
+fault-line-le f =
+    rw (length-append (decimal (f .line) ++ 44 ∷ []), length-append (decimal (f .line)), length-append (decimal (f .column) ++ 58 ∷ []), length-append (decimal (f .column)))
+    (omega (arith, decimal-le (f .line), decimal-le (f .column), expected-le (f .expected)))

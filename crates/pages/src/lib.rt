@@ -1,0 +1,35 @@
+// What each program for traces writes, as one call on slices: the text for standard output, and what is said on standard error.
+mod joining; // joining.rt: how many bytes a line has
+mod running; // running.rt: a trace, and the page of its run
+mod unpacking; // unpacking.rt: a trace, and its words as text
+mod packing; // packing.rt: a text, and the trace of its words
+
+use lines::Line;
+pub use packing::PACKED_WORDS;
+pub use packing::SAID_BYTES;
+pub use packing::end_text;
+pub use packing::start_text;
+pub use packing::take_text;
+pub use running::PAGE_BYTES;
+pub use running::run_trace;
+use text::Reader;
+pub use unpacking::TEXT_BYTES;
+pub use unpacking::unpack_trace;
+
+// How many bytes there are for standard output and for standard error, or that a slice is too short.
+pub struct Written {
+    pub output: Line,
+    pub said: Line,
+}
+
+// A text that is being packed: its reader, and how many of its lines cannot be read, as far as 64 bits go.
+pub struct Packing {
+    pub reader: Reader,
+    pub faults: u64,
+}
+
+// A text after one more piece, and what is said of it.
+pub struct Packed {
+    pub packing: Packing,
+    pub said: Line,
+}
