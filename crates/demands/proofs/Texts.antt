@@ -1,7 +1,6 @@
 -- A trace as text: unpacked and packed again it is the same trace. The text is what `words_line` makes of the words that were read, line by
 -- line; reading, taking and writing are the calls' own answers.
 use mathlib.Core.Path.{_≡_, refl, sym, ap, subst, _∙_}
-use mathlib.Core.Bool.{false}
 use mathlib.Core.List.{List, [], _∷_, _++_}
 use Prim.Native.Nat.{ℕ, zero, suc, _-_, _*_, _/_, _≤_}
 use native.Mathlib.Omega.{arith}
@@ -90,7 +89,7 @@ module _ (t lent : List ℕ) (n : ℕ) (o : Filling Filled) (bytes : Bytes t) (r
 
     -- and written: the bytes of the trace
     pub unpacked-and-packed : (trace : List ℕ) (q : Filling Filled) → WritesTrace (take (p .answer .reader .found) (p .after), trace) q → length t ≤ length trace
-        → (p .answer .stop ≡ Stop.TextEnd) × (p .answer .reader .faulty ≡ false) × (q .answer ≡ Filled.Accepted (length t)) × (q .after ≡ t ++ drop (length t) trace)
+        → (p .answer .stop ≡ Stop.TextEnd) × (p .answer .reader .faults ≡ 0) × (q .answer ≡ Filled.Accepted (length t)) × (q .after ≡ t ++ drop (length t) trace)
     unpacked-and-packed trace q w h =
         let again = trace-there-and-back t lent n o bytes reads e trace q (subst (λ (l : List ℕ). WritesTrace (l, trace) q) same-words w) h in
-        (ap (λ (k : Taken). k .stop) answered, ap (λ (k : Taken). k .reader .faulty) answered, again .0, again .1)
+        (ap (λ (k : Taken). k .stop) answered, ap (λ (k : Taken). k .reader .faults) answered, again .0, again .1)

@@ -1,8 +1,9 @@
 -- The two ways out of what makes text, and that no two outcomes satisfy its statement.
 use mathlib.Core.Path.{_≡_, refl, sym, ap, subst, _∙_}
-use mathlib.Core.List.{List, _++_}
+use mathlib.Core.List.{List, [], _++_}
 use mathlib.Core.Option.{none, some, Option·some-injective, Option·some-ne-none}
 use Prim.Native.Nat.{ℕ, _≤_, _<_}
+use native.Mathlib.Omega.{arith}
 use lib.Dec.{leb}
 use lib.ListN.{length, drop}
 use borrow.Author.Tests.{le-leb, lt-leb}
@@ -28,6 +29,13 @@ module _ {text before : List ℕ} where
 pub makes-as : {text other : List ℕ} {r : Line} {before after : List ℕ} → text ≡ other → Makes text r before after → Makes other r before after
 makes-as {r = r} {before = before} {after = after} e m = subst (λ (l : List ℕ). Makes l r before after) e m
 
+-- text that goes by a value, which is known
+pub makes-by : {A : Type 0} (text : A → List ℕ) {x y : A} {r : Line} {before after : List ℕ} → x ≡ y → Makes (text y) r before after → Makes (text x) r before after
+makes-by text e m = makes-as (sym (ap text e)) m
+
+pub nothing-made : (before : List ℕ) → Makes [] (Made 0) before before
+nothing-made before = made-all 0 before (omega arith) refl refl
+
 -- what an answer tells fixes it
 line-one : (r s : Line) → lineTells r ≡ lineTells s → r ≡ s
 line-one (Made n) (Made m) e = ap Made (Option·some-injective n m e)
@@ -38,3 +46,8 @@ line-one NoRoom NoRoom e = refl
 pub makes-unique : (text before : List ℕ) (r s : Line) (after after′ : List ℕ) → Makes text r before after → Makes text s before after′
     → (r ≡ s) × (after ≡ after′)
 makes-unique text before r s after after′ f g = (line-one r s (f .told ∙ sym (g .told)), f .written ∙ sym (g .written))
+
+-- a text that fits is made, all of it
+pub made-fits : (text : List ℕ) (r : Line) (before after : List ℕ) → Makes text r before after → length text ≤ length before
+    → (r ≡ Made (length text)) × (after ≡ text ++ drop (length text) before)
+made-fits text r before after m h = makes-unique text before r (Made (length text)) after (text ++ drop (length text) before) m (made-all (length text) _ h refl refl)

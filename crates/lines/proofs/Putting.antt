@@ -1,7 +1,8 @@
 -- Text put together piece by piece.
 use mathlib.Core.Path.{_≡_, refl, sym, ap, subst, _∙_}
-use mathlib.Core.List.{List, [], _∷_, _++_, append-assoc}
+use mathlib.Core.List.{List, [], _∷_, _++_, append-assoc, append-nil}
 use Prim.Native.Nat.{ℕ, suc, _+_, _-_, _≤_, _<_}
+use native.Mathlib.Nat.{add-zero}
 use native.Mathlib.Numerals.{add-one}
 use native.Mathlib.Omega.{arith}
 use lib.ListN.{length, take, drop, set, length-append, length-set}
@@ -72,3 +73,6 @@ line-made p m = makes-as (p .put) m
 -- text that goes by a value, which is known
 pub puts-by : {A : Type 0} (text : A → List ℕ) {x y : A} {p r : ℕ} {before after : List ℕ} → x ≡ y → Puts (text y) p r before after → Puts (text x) p r before after
 puts-by {A = A} text {p = p} {r = r} {before = before} {after = after} e f = subst (λ (z : A). Puts (text z) p r before after) (sym e) f
+
+pub puts-nothing : (at : ℕ) (line : List ℕ) → Puts [] at at line line
+puts-nothing at line = record { end = sym (add-zero at); put = sym (append-nil (take at line)); rest = refl }

@@ -1,6 +1,5 @@
 -- The text of cycle words is read as those words.
 use mathlib.Core.Path.{_≡_, refl, sym, ap, _∙_}
-use mathlib.Core.Bool.{Bool, false}
 use mathlib.Core.List.{List, [], _∷_, _++_, append-assoc}
 use Prim.Native.Nat.{ℕ, zero, suc, _+_, _-_, _*_, _/_, _%_, _≤_, _<_}
 use native.Mathlib.Omega.{arith}
@@ -24,7 +23,7 @@ digit-read : (d : ℕ) → d < 16 → digitValue (digit d) ≡ d
 unfolding digitValue
 digit-read d h = eqb-true (digitValue (digit d)) d (holds _ (below (λ (k : ℕ). eqb (digitValue (digit k)) k) 16 d tt h))
 
-hex-read : (x : ℕ) → x < 65536 → (i l c w k : ℕ) (f : Bool) (rest words : List ℕ) → w < wordsPerLine → k < length words
+hex-read : (x : ℕ) → x < 65536 → (i l c w k f : ℕ) (rest words : List ℕ) → w < wordsPerLine → k < length words
     → takeFrom i (reader l c w Between k f) (hex 4 x ++ rest) words
     ≡ takeFrom (suc (suc (suc (suc i)))) (reader l (oneMore (oneMore (oneMore (oneMore c)))) (w + 1) After (k + 1) f) rest (set words k x)
 unfolding hex
@@ -32,7 +31,7 @@ hex-read x h i l c w k f rest words =
     word-read x _ _ _ _ h (digit-read _ (omega arith)) (digit-read _ (omega arith)) (digit-read _ (omega arith)) (digit-read _ (omega arith)) i l c w k f rest words
 
 -- a line's words from any of them on: each is kept, and the line is over after the last
-line-read : (line : List ℕ) → AllWords line → (i l c w k : ℕ) (f : Bool) (rest words : List ℕ) → 0 < length line → w + length line ≡ wordsPerLine → k + length line ≤ length words
+line-read : (line : List ℕ) → AllWords line → (i l c w k f : ℕ) (rest words : List ℕ) → 0 < length line → w + length line ≡ wordsPerLine → k + length line ≤ length words
     → takeFrom i (reader l c w Between k f) (wordsText line ++ rest) words
     ≡ takeFrom (i + 5 * length line) (reader (oneMore l) 1 0 Between (k + length line) f) rest (sets words k line)
 line-read [] a i l c w k f rest words z e h = absurd (omega arith)
@@ -81,7 +80,7 @@ unfolding wordsLine
 line-here all i h = picked (ltb i (length all / wordsPerLine)) (wordsText (take wordsPerLine (drop (wordsPerLine * i) all))) [] (lt-ltb i (length all / wordsPerLine) h)
 
 -- the lines of some cycles, one after another
-lines-read : (n i : ℕ) (all : List ℕ) → AllWords all → (j l : ℕ) (f : Bool) (words : List ℕ) → wordsPerLine * (i + n) ≡ length all → length all ≤ length words
+lines-read : (n i : ℕ) (all : List ℕ) → AllWords all → (j l f : ℕ) (words : List ℕ) → wordsPerLine * (i + n) ≡ length all → length all ≤ length words
     → takeFrom j (reader l 1 0 Between (wordsPerLine * i) f) (textFrom all i n) words
     ≡ stopsAt (reader (linesAfter n l) 1 0 Between (length all) f) (j + 5 * wordsPerLine * n) TextEnd (sets words (wordsPerLine * i) (drop (wordsPerLine * i) all))
 unfolding takeFrom
@@ -115,7 +114,7 @@ lines-read (suc n) i all a j l f words e h =
 -- what comes of all of it, from the start of a text: every word found, in its place, and no fault
 abbrev pub allRead : List ℕ → List ℕ → Took
 allRead all words =
-    stopsAt (reader (linesAfter (length all / wordsPerLine) 1) 1 0 Between (length all) false) (5 * wordsPerLine * (length all / wordsPerLine)) TextEnd (all ++ drop (length all) words)
+    stopsAt (reader (linesAfter (length all / wordsPerLine) 1) 1 0 Between (length all) 0) (5 * wordsPerLine * (length all / wordsPerLine)) TextEnd (all ++ drop (length all) words)
 
 pub text-read : (all words : List ℕ) → AllWords all → wordsPerLine * (length all / wordsPerLine) ≡ length all → length all ≤ length words
     → takeFrom 0 startOf (textOf all) words ≡ allRead all words
@@ -123,4 +122,4 @@ text-read all words a e h =
     let index : 0 + 5 * wordsPerLine * (length all / wordsPerLine) ≡ 5 * wordsPerLine * (length all / wordsPerLine) = omega arith in
     let size : 0 + length all ≡ length all = omega arith in
     let filled : sets words 0 all ≡ all ++ drop (length all) words = sets-eq all words 0 (omega arith) ∙ ap (λ (k : ℕ). all ++ drop k words) size in
-    lines-read (length all / wordsPerLine) 0 all a 0 1 false words (omega (arith, e)) h ∙ rw (index, filled)
+    lines-read (length all / wordsPerLine) 0 all a 0 1 0 words (omega (arith, e)) h ∙ rw (index, filled)

@@ -35,7 +35,7 @@ means k s why = record { number = k; subject = s; why = why }
 abbrev pub meanings : List Meaning
 meanings =
     means 1 whole (ascii "the words are not whole cycles of three")
-    ∷ means 2 whole (ascii "there are more than 4,096 cycles")
+    ∷ means 2 whole (ascii "there are more than 4,096 cycles or 49 blocks")
     ∷ means 3 whole (ascii "there is no room for what comes out")
     ∷ means 4 whole (ascii "a word waits that takes no operand")
     ∷ means 5 pins (ascii "have a bit on that must be 0")

@@ -6,14 +6,14 @@ mod page; // page.rt: which line comes when
 mod remarks; // remarks.rt: what is said to a person
 mod words; // words.rt: a trace as text
 
+pub use fields::hand_over;
 use machine::Registers;
 use machine::Waiting;
-pub use fields::hand_over;
 pub use page::CYCLE_BYTES;
 pub use page::LAST_BYTES;
 pub use page::LINES_BESIDE_CYCLES;
-pub use page::REGISTERS;
 pub use page::REGISTER_BYTES;
+pub use page::REGISTERS;
 pub use page::STATE_BYTES;
 pub use page::page_line;
 pub use remarks::REMARK_BYTES;

@@ -5,7 +5,7 @@ use crate::Remark;
 use crate::fields;
 ghost use mathlib.Core.Path.{_≡_};
 ghost use mathlib.Core.List.{[], _∷_, _++_};
-ghost use Prim.Native.Nat.{_+_, _≤_};
+ghost use Prim.Native.Nat.{ℕ, _+_, _≤_, _<_};
 ghost use lib.ListN.{length};
 ghost use Rattle.lines.specs.Text.{newline, hex, decimal, ascii};
 ghost use Rattle.lines.specs.Answers.{Makes};
@@ -62,14 +62,7 @@ fn put_block(index: usize, why: &[u8], at: usize, line: &mut [u8]) -> usize
     fields::put_text(why, after, line)
 }
 
-fn put_cycle(
-    index: usize,
-    noun: &[u8],
-    value: u16,
-    why: &[u8],
-    at: usize,
-    line: &mut [u8],
-) -> usize
+fn put_cycle(index: usize, noun: &[u8], value: u16, why: &[u8], at: usize, line: &mut [u8]) -> usize
     requires { ⌜ (length (now noun) ≤ 10) × (length (now why) ≤ 48) × (at + 93 ≤ length (now line)) ⌝ }
     ensures { λ r. ⌜ Puts (((ascii "at cycle " ++ (decimal index ++ 58 ∷ [])) ++ (now (noun .entry) ++ (hex 4 value ++ 32 ∷ []))) ++ now (why .entry)) at r (now (line .entry)) (now (line .exit)) × (r ≤ at + 93) ⌝ }
 {
@@ -78,28 +71,117 @@ fn put_cycle(
     fields::put_text(why, after, line)
 }
 
-// Where and why, by the number of the refusal. A number that is not in the table has no reason.
+// Where and why, of the numbers of a whole run, of a cycle, and of a trace. A number that is not in the table has no reason.
+fn put_start_reason(number: u8, at: usize, line: &mut [u8]) -> usize
+    requires { ⌜ (number < 5) × (at + 93 ≤ length (now line)) ⌝ }
+    ensures { λ r. ⌜ ((i w p : ℕ) → Puts (reasonText (meaningOf number) i w p) at r (now (line .entry)) (now (line .exit))) × (r ≤ at + 93) ⌝ }
+{
+    match number {
+        1 => put_whole(b"the words are not whole cycles of three\n", at, line),
+        2 => put_whole(b"there are more than 4,096 cycles or 49 blocks\n", at, line),
+        3 => put_whole(b"there is no room for what comes out\n", at, line),
+        4 => put_whole(b"a word waits that takes no operand\n", at, line),
+        _ => put_whole(b"\n", at, line),
+    }
+}
+
+fn put_cycle_reason(
+    number: u8,
+    index: usize,
+    word: u16,
+    pins: u16,
+    at: usize,
+    line: &mut [u8],
+) -> usize
+    requires { ⌜ (4 < number) × (number < 11) × (at + 93 ≤ length (now line)) ⌝ }
+    ensures { λ r. ⌜ Puts (reasonText (meaningOf number) index word pins) at r (now (line .entry)) (now (line .exit)) × (r ≤ at + 93) ⌝ }
+{
+    match number {
+        5 => put_cycle(
+            index,
+            b" the pins ",
+            pins,
+            b"have a bit on that must be 0\n",
+            at,
+            line,
+        ),
+        6 => put_cycle(
+            index,
+            b" the pins ",
+            pins,
+            b"have DLE high while OE_Y is low\n",
+            at,
+            line,
+        ),
+        7 => put_cycle(
+            index,
+            b" the word ",
+            word,
+            b"is not on the instruction list\n",
+            at,
+            line,
+        ),
+        8 => put_cycle(
+            index,
+            b" the word ",
+            word,
+            b"is a prioritize with ACC as source and as mask\n",
+            at,
+            line,
+        ),
+        9 => put_cycle(
+            index,
+            b" the word ",
+            word,
+            b"is a bit instruction in byte mode with n over 7\n",
+            at,
+            line,
+        ),
+        _ => put_cycle(
+            index,
+            b" the word ",
+            word,
+            b"takes an operand and is begun with IEN high\n",
+            at,
+            line,
+        ),
+    }
+}
+
+fn put_trace_reason(number: u8, index: usize, at: usize, line: &mut [u8]) -> usize
+    requires { ⌜ (10 < number) × (at + 93 ≤ length (now line)) ⌝ }
+    ensures { λ r. ⌜ ((w p : ℕ) → Puts (reasonText (meaningOf number) index w p) at r (now (line .entry)) (now (line .exit))) × (r ≤ at + 93) ⌝ }
+{
+    match number {
+        11 => put_whole(b"the length is not a multiple of 512 bytes\n", at, line),
+        12 => put_block(index, b"its check is not that of its bytes\n", at, line),
+        13 => put_block(
+            index,
+            b"its number is not its place in the trace\n",
+            at,
+            line,
+        ),
+        14 => put_block(
+            index,
+            b"its count, its byte 3 or its filling is wrong\n",
+            at,
+            line,
+        ),
+        _ => put_whole(b"\n", at, line),
+    }
+}
+
 fn put_reason(number: u8, index: usize, word: u16, pins: u16, at: usize, line: &mut [u8]) -> usize
     requires { ⌜ at + 93 ≤ length (now line) ⌝ }
     ensures { λ r. ⌜ Puts (reasonText (meaningOf number) index word pins) at r (now (line .entry)) (now (line .exit)) × (r ≤ at + 93) ⌝ }
 {
-    match number {
-        1 => put_whole(b"the words are not whole cycles of three\n", at, line),
-        2 => put_whole(b"there are more than 4,096 cycles\n", at, line),
-        3 => put_whole(b"there is no room for what comes out\n", at, line),
-        4 => put_whole(b"a word waits that takes no operand\n", at, line),
-        5 => put_cycle(index, b" the pins ", pins, b"have a bit on that must be 0\n", at, line),
-        6 => put_cycle(index, b" the pins ", pins, b"have DLE high while OE_Y is low\n", at, line),
-        7 => put_cycle(index, b" the word ", word, b"is not on the instruction list\n", at, line),
-        8 => put_cycle(index, b" the word ", word, b"is a prioritize with ACC as source and as mask\n", at, line),
-        9 => put_cycle(index, b" the word ", word, b"is a bit instruction in byte mode with n over 7\n", at, line),
-        10 => put_cycle(index, b" the word ", word, b"takes an operand and is begun with IEN high\n", at, line),
-        11 => put_whole(b"the length is not a multiple of 512 bytes\n", at, line),
-        12 => put_block(index, b"its check is not that of its bytes\n", at, line),
-        13 => put_block(index, b"its number is not its place in the trace\n", at, line),
-        14 => put_block(index, b"its count, its byte 3 or its filling is wrong\n", at, line),
-        _ => put_whole(b"\n", at, line),
+    if number < 5 {
+        return put_start_reason(number, at, line);
     }
+    if number < 11 {
+        return put_cycle_reason(number, index, word, pins, at, line);
+    }
+    put_trace_reason(number, index, at, line)
 }
 
 fn put_refusal(number: u8, index: usize, word: u16, pins: u16, at: usize, line: &mut [u8]) -> usize
@@ -117,10 +199,29 @@ fn put_remark(remark: Remark, at: usize, line: &mut [u8]) -> usize
     match remark {
         Remark::NoInput => fields::put_text(b"standard input cannot be read\n", at, line),
         Remark::NoOutput => fields::put_text(b"standard output cannot be written\n", at, line),
-        Remark::Waits(word) => put_hex(b"note: the run ends waiting for the operand of ", word, b'\n', at, line),
+        Remark::Waits(word) => put_hex(
+            b"note: the run ends waiting for the operand of ",
+            word,
+            b'\n',
+            at,
+            line,
+        ),
         Remark::Marked => fields::put_text(b"the text begins with a byte order mark\n", at, line),
-        Remark::Unnamed(count) => put_number(b"more lines that cannot be read: ", count, b'\n', at, line),
-        Remark::Refusal(number, index, word, pins) => put_refusal(number, index, word, pins, at, line),
+        Remark::Unnamed(count) => put_number(
+            b"more lines that cannot be read: ",
+            count,
+            b'\n',
+            at,
+            line,
+        ),
+        Remark::Refusal(number, index, word, pins) => put_refusal(
+            number,
+            index,
+            word,
+            pins,
+            at,
+            line,
+        ),
     }
 }
 

@@ -24,13 +24,13 @@ use Rattle.lines.specs.Remarks.{remarkLine}
 abbrev pub readingOf : List ℕ → Placed ℕ
 readingOf trace = readOf wordsPerRecord trace (wordsPerRecord * mostCycles)
 
--- what stands where a trace is read, and where it is refused with a number and an index
-abbrev pub ifRead : Placed ℕ → List ℕ → (ℕ → ℕ → List ℕ) → List ℕ
-ifRead answer text refusal = elim (answer .told .value) [ some n ↦ text | none ↦ refusal (answer .told .number) (answer .index) ]
+-- what stands where an answer accepts, and where it refuses with a number and an index
+abbrev pub ifAccepted : Placed ℕ → List ℕ → (ℕ → ℕ → List ℕ) → List ℕ
+ifAccepted answer text refusal = elim (answer .told .value) [ some n ↦ text | none ↦ refusal (answer .told .number) (answer .index) ]
 
--- what is said of a trace that the reader refuses: no cycle is at fault
-abbrev pub readRefused : Program → ℕ → ℕ → List ℕ
-readRefused program number index = remarkLine program (Refusal number index 0 0)
+-- what is said of a refusal of the reader or the writer: no cycle is at fault
+abbrev pub refusalSaid : Program → ℕ → ℕ → List ℕ
+refusalSaid program number index = remarkLine program (Refusal number index 0 0)
 
 -- the run that a program makes of a trace's words, with room for every report
 abbrev pub courseOf : List ℕ → Course
@@ -54,7 +54,8 @@ ranFrom words = ranOf (summaryOf zeroMachine (courseOf words))
 unfoldable pub runText : List ℕ → List ℕ
 runText words = joined (pageOf (ranFrom words) (reportsOf (courseOf words .steps)))
 
--- what is said of the end: the refusal, with its cycle's word and pins; or that a word waits
+-- what is said of the end: the refusal, with its cycle's word and pins, and nothing more; or that a word waits. With budget for every cycle no
+-- run is stopped
 abbrev pub waitSaid : Waiting → List ℕ
 waitSaid Nothing = []
 waitSaid (Held w) = remarkLine RunTrace (Waits w)
@@ -69,7 +70,7 @@ runSaid words = endSaid words (ranFrom words .ending) (ranFrom words .machine .r
 
 -- of a trace: its run, or the one line of the refusal
 unfoldable pub pageText : List ℕ → List ℕ
-pageText trace = ifRead (readingOf trace) (runText (readWords wordsPerRecord trace)) refusedLine
+pageText trace = ifAccepted (readingOf trace) (runText (readWords wordsPerRecord trace)) refusedLine
 
 unfoldable pub pageSaid : List ℕ → List ℕ
-pageSaid trace = ifRead (readingOf trace) (runSaid (readWords wordsPerRecord trace)) (readRefused RunTrace)
+pageSaid trace = ifAccepted (readingOf trace) (runSaid (readWords wordsPerRecord trace)) (refusalSaid RunTrace)

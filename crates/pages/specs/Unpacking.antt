@@ -5,11 +5,11 @@ use Rattle.trace.specs.Layout.{wordsPerRecord}
 use Rattle.trace.specs.Reading.{readWords}
 use Rattle.lines.specs.declared.Program.the-variants.{UnpackTrace}
 use Rattle.lines.specs.Words.{textOf}
-use Rattle.pages.specs.Running.{readingOf, ifRead, readRefused}
+use Rattle.pages.specs.Running.{readingOf, ifAccepted, refusalSaid}
 
 -- the words of the trace's cycles, a line each; nothing where the trace is refused
 unfoldable pub unpackedText : List ℕ → List ℕ
-unpackedText trace = ifRead (readingOf trace) (textOf (readWords wordsPerRecord trace)) (λ (number index : ℕ). [])
+unpackedText trace = ifAccepted (readingOf trace) (textOf (readWords wordsPerRecord trace)) (λ (number index : ℕ). [])
 
 unfoldable pub unpackedSaid : List ℕ → List ℕ
-unpackedSaid trace = ifRead (readingOf trace) [] (readRefused UnpackTrace)
+unpackedSaid trace = ifAccepted (readingOf trace) [] (refusalSaid UnpackTrace)

@@ -17,7 +17,7 @@ ghost use Rattle.run.specs.Courses.{runFrom};
 ghost use Rattle.run.specs.Runs.{mostCycles, startChecks, runOf, zeroMachine, fullBudget, Gives};
 
 // The words of a cycle, and of a report.
-const WORDS_PER_CYCLE: usize = 3;
+pub const WORDS_PER_CYCLE: usize = 3;
 
 pub const WORDS_PER_REPORT: usize = 4;
 

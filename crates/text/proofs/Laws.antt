@@ -18,6 +18,18 @@ pub take-unique : (s : Reader) (text : List ℕ) (r q : Taken) (before after lef
     → (r ≡ q) × (after ≡ left)
 take-unique s text r q before after left t u = (t .taken ∙ sym (u .taken), t .written ∙ sym (u .written))
 
+-- what holds of each of the three outcomes of a byte holds of its outcome, and so of two outcomes beside each other
+pub met-all : {A : Type 0} (P : A → Type 0) (x : Met) (a : A) (w : ℕ → A) (f : Expected → A) → P a → ((y : ℕ) → P (w y)) → ((e : Expected) → P (f e)) → P (metBy x a w f)
+met-all P Met.Nothing a w f p q r = p
+met-all P (Met.Word y) a w f p q r = q y
+met-all P (Met.Fault e) a w f p q r = r e
+
+pub met-both : {A B : Type 0} (R : A → B → Type 0) (x : Met) (a : A) (w : ℕ → A) (f : Expected → A) (b : B) (v : ℕ → B) (g : Expected → B)
+    → R a b → ((y : ℕ) → R (w y) (v y)) → ((e : Expected) → R (f e) (g e)) → R (metBy x a w f) (metBy x b v g)
+met-both R Met.Nothing a w f b v g p q r = p
+met-both R (Met.Word y) a w f b v g p q r = q y
+met-both R (Met.Fault e) a w f b v g p q r = r e
+
 -- of a piece that is not empty at least one byte is taken, and no more than it has
 bytes-by : (x : Met) (i n : ℕ) (a : Took) (w : ℕ → Took) (f : Expected → Took) → (suc i ≤ a .taken .bytes) × (a .taken .bytes ≤ n)
     → ((y : ℕ) → (suc i ≤ w y .taken .bytes) × (w y .taken .bytes ≤ n)) → ((e : Expected) → (suc i ≤ f e .taken .bytes) × (f e .taken .bytes ≤ n))
@@ -26,7 +38,7 @@ bytes-by Met.Nothing i n a w f p q r = p
 bytes-by (Met.Word y) i n a w f p q r = q y
 bytes-by (Met.Fault e) i n a w f p q r = r e
 
-some-bytes : (i : ℕ) (s : Reader) (text words : List ℕ) → (i ≤ takeFrom i s text words .taken .bytes) × (takeFrom i s text words .taken .bytes ≤ i + length text)
+pub some-bytes : (i : ℕ) (s : Reader) (text words : List ℕ) → (i ≤ takeFrom i s text words .taken .bytes) × (takeFrom i s text words .taken .bytes ≤ i + length text)
     × (0 < length text → suc i ≤ takeFrom i s text words .taken .bytes)
 unfolding takeFrom
 some-bytes i s [] words = (omega arith, omega arith, λ z. absurd (omega arith))

@@ -16,8 +16,8 @@ use Rattle.text.specs.Lines.{wordsPerLine, withDigit, moveOf}
 use Rattle.text.specs.Taking.{oneMore, passed, keptWord, withWord, Took, takeFrom}
 
 -- a reader, by its parts
-abbrev pub reader : ℕ → ℕ → ℕ → Place → ℕ → Bool → Reader
-reader line column words place found faulty = record { line = line; column = column; words = words; place = place; found = found; faulty = faulty }
+abbrev pub reader : ℕ → ℕ → ℕ → Place → ℕ → ℕ → Reader
+reader line column words place found faults = record { line = line; column = column; words = words; place = place; found = found; faults = faults }
 
 -- b is a hex digit that is worth d
 module _ (b d : ℕ) (value : digitValue b ≡ d) (small : d < 16) where
@@ -39,17 +39,17 @@ module _ (b d : ℕ) (value : digitValue b ≡ d) (small : d < 16) where
   unfolding digitValue
   no-feed = other lineFeed refl
 
-  begins : (i l c w k : ℕ) (f : Bool) (rest words : List ℕ) → w < wordsPerLine
+  begins : (i l c w k f : ℕ) (rest words : List ℕ) → w < wordsPerLine
       → takeFrom i (reader l c w Between k f) (b ∷ rest) words ≡ takeFrom (suc i) (reader l (oneMore c) w (Within 1 d) k f) rest words
   unfolding takeFrom moveOf passed
   begins i l c w k f rest words h = rw (no-feed, digit-kind, lt-ltb w wordsPerLine h)
 
-  goes-on : (i l c w k n v : ℕ) (f : Bool) (rest words : List ℕ) → n < 3
+  goes-on : (i l c w k n v f : ℕ) (rest words : List ℕ) → n < 3
       → takeFrom i (reader l c w (Within n v) k f) (b ∷ rest) words ≡ takeFrom (suc i) (reader l (oneMore c) w (Within (n + 1) (withDigit v d)) k f) rest words
   unfolding takeFrom moveOf passed
   goes-on i l c w k n v f rest words h = rw (no-feed, digit-kind, lt-ltb n 3 h)
 
-  ends : (i l c w k v : ℕ) (f : Bool) (rest words : List ℕ) → w < wordsPerLine → k < length words
+  ends : (i l c w k v f : ℕ) (rest words : List ℕ) → w < wordsPerLine → k < length words
       → takeFrom i (reader l c w (Within 3 v) k f) (b ∷ rest) words ≡ takeFrom (suc i) (reader l (oneMore c) (w + 1) After (k + 1) f) rest (set words k (withDigit v d))
   unfolding takeFrom moveOf passed
   ends i l c w k v f rest words h g = rw (no-feed, digit-kind, lt-ltb w wordsPerLine h, lt-ltb k (length words) g)
@@ -65,7 +65,7 @@ four-digits x h =
 
 -- four digits are a word
 pub word-read : (x b₃ b₂ b₁ b₀ : ℕ) → x < 65536 → digitValue b₃ ≡ x / 16 / 16 / 16 % 16 → digitValue b₂ ≡ x / 16 / 16 % 16 → digitValue b₁ ≡ x / 16 % 16 → digitValue b₀ ≡ x % 16
-    → (i l c w k : ℕ) (f : Bool) (rest words : List ℕ) → w < wordsPerLine → k < length words
+    → (i l c w k f : ℕ) (rest words : List ℕ) → w < wordsPerLine → k < length words
     → takeFrom i (reader l c w Between k f) (b₃ ∷ b₂ ∷ b₁ ∷ b₀ ∷ rest) words
     ≡ takeFrom (suc (suc (suc (suc i)))) (reader l (oneMore (oneMore (oneMore (oneMore c)))) (w + 1) After (k + 1) f) rest (set words k x)
 word-read x b₃ b₂ b₁ b₀ small e₃ e₂ e₁ e₀ i l c w k f rest words h g =
@@ -76,12 +76,12 @@ word-read x b₃ b₂ b₁ b₀ small e₃ e₂ e₁ e₀ i l c w k f rest words
     ∙ ap (λ (v : ℕ). takeFrom (suc (suc (suc (suc i)))) (reader l (oneMore (oneMore (oneMore (oneMore c)))) (w + 1) After (k + 1) f) rest (set words k v)) (four-digits x small)
 
 -- a blank after a word, and the line's end after the last
-pub blank-read : (i l c w k : ℕ) (f : Bool) (rest words : List ℕ)
+pub blank-read : (i l c w k f : ℕ) (rest words : List ℕ)
     → takeFrom i (reader l c w After k f) (32 ∷ rest) words ≡ takeFrom (suc i) (reader l (oneMore c) w Between k f) rest words
 unfolding takeFrom moveOf passed kindOf
 blank-read i l c w k f rest words = refl
 
-pub feed-read : (i l c k : ℕ) (f : Bool) (rest words : List ℕ)
+pub feed-read : (i l c k f : ℕ) (rest words : List ℕ)
     → takeFrom i (reader l c wordsPerLine After k f) (lineFeed ∷ rest) words ≡ takeFrom (suc i) (reader (oneMore l) 1 0 Between k f) rest words
 unfolding takeFrom moveOf passed kindOf
 feed-read i l c k f rest words = refl

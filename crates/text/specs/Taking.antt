@@ -1,7 +1,6 @@
 -- A text taken byte by byte, and the words that it leaves. The form of the text is ours (docs/DECISIONS.md).
 use mathlib.Core.Path.{_≡_}
 use Prim.Native.Nat.{ℕ, suc, _+_}
-use mathlib.Core.Bool.{Bool, true, false}
 use mathlib.Core.List.{List, [], _∷_}
 use lib.ListN.{length, set}
 use lib.Dec.{eqb, ltb}
@@ -19,9 +18,9 @@ use Rattle.text.specs.Lines.{moveOf}
 
 -- before the first byte: line 1, column 1
 abbrev pub startOf : Reader
-startOf = record { line = 1; column = 1; words = 0; place = Between; found = 0; faulty = false }
+startOf = record { line = 1; column = 1; words = 0; place = Between; found = 0; faults = 0 }
 
--- lines and columns are counted as far as 64 bits go
+-- lines, columns and faults are counted as far as 64 bits go
 abbrev pub mostCounted : ℕ
 mostCounted = 0xFFFFFFFFFFFFFFFF
 
@@ -30,10 +29,10 @@ oneMore x = pick (ltb x mostCounted) (x + 1) x
 
 -- the reader after a byte: in the next column or, after a line feed, in the next line
 abbrev pub nextColumn : Reader → Move → Reader
-nextColumn s m = record { line = s .line; column = oneMore (s .column); words = m .words; place = m .place; found = s .found; faulty = s .faulty }
+nextColumn s m = record { line = s .line; column = oneMore (s .column); words = m .words; place = m .place; found = s .found; faults = s .faults }
 
 abbrev pub nextLine : Reader → Reader
-nextLine s = record { line = oneMore (s .line); column = 1; words = 0; place = Between; found = s .found; faulty = s .faulty }
+nextLine s = record { line = oneMore (s .line); column = 1; words = 0; place = Between; found = s .found; faults = s .faults }
 
 unfoldable pub passed : Reader → Move → ℕ → Reader
 passed s m b = pick (eqb b lineFeed) (nextLine s) (nextColumn s m)
@@ -49,11 +48,11 @@ withWord s room = record {
   words = s .words;
   place = s .place;
   found = pick (ltb (s .found) room) (s .found + 1) (s .found);
-  faulty = s .faulty;
+  faults = s .faults;
 }
 
 abbrev pub withFault : Reader → Reader
-withFault s = record { line = s .line; column = s .column; words = s .words; place = s .place; found = s .found; faulty = true }
+withFault s = record { line = s .line; column = s .column; words = s .words; place = s .place; found = s .found; faults = oneMore (s .faults) }
 
 abbrev pub faultAt : Reader → Expected → Fault
 faultAt s e = record { line = s .line; column = s .column; expected = e }
@@ -71,7 +70,7 @@ abbrev pub moveAt : Reader → ℕ → Move
 moveAt s b = moveOf (s .place) (s .words) (kindOf b)
 
 -- what follows, by what the byte brings: nothing, a word, or a fault
-abbrev pub metBy : Met → Took → (ℕ → Took) → (Expected → Took) → Took
+abbrev pub metBy : {A : Type 0} → Met → A → (ℕ → A) → (Expected → A) → A
 metBy Met.Nothing nothing word fault = nothing
 metBy (Met.Word x) nothing word fault = word x
 metBy (Met.Fault e) nothing word fault = fault e

@@ -50,14 +50,14 @@ pub(crate) struct Move {
 }
 
 // A reader between two bytes: the line and the column of the next one, the line's words so far, the place in it; how many words of the
-// text are kept, and whether it has a fault.
+// text are kept, and how many of its lines are bad.
 pub struct Reader {
     pub line: u64,
     pub column: u64,
     pub words: usize,
     pub place: Place,
     pub found: usize,
-    pub faulty: bool,
+    pub faults: u64,
 }
 
 // A line that cannot be read: its number, the column of the byte that does not fit, and what was expected there.
@@ -90,7 +90,7 @@ pub fn start() -> Reader
         words: 0,
         place: Place::Between,
         found: 0,
-        faulty: false,
+        faults: 0,
     }
 }
 
@@ -111,7 +111,7 @@ fn passed(reader: Reader, step: Move, byte: u8) -> Reader
             words: 0,
             place: Place::Between,
             found: reader.found,
-            faulty: reader.faulty,
+            faults: reader.faults,
         };
     }
     let place = step.place;
@@ -121,7 +121,7 @@ fn passed(reader: Reader, step: Move, byte: u8) -> Reader
         words: step.words,
         place: place,
         found: reader.found,
-        faulty: reader.faulty,
+        faults: reader.faults,
     }
 }
 
@@ -140,7 +140,7 @@ fn with_word(reader: Reader, room: usize) -> Reader
         words: reader.words,
         place: place,
         found: found,
-        faulty: reader.faulty,
+        faults: reader.faults,
     }
 }
 
@@ -154,7 +154,7 @@ fn with_fault(reader: Reader) -> Reader
         words: reader.words,
         place: place,
         found: reader.found,
-        faulty: true,
+        faults: one_more(reader.faults),
     }
 }
 

@@ -1,0 +1,6 @@
+pub mod Together
+pub mod Longest
+pub mod Gathered
+pub mod Pieces
+pub mod Answers
+pub mod Outs
