@@ -1,6 +1,7 @@
-// Reads a trace on standard input, runs it from all zero, and prints its page.
+// Reads a trace on standard input, runs it from all zero, and prints its page. What it cannot do, and why, it says on
+// standard error.
+use lines::Program;
+
 fn main() {
-    let mut bytes = [0u8; printing::INPUT];
-    let length = printing::read_trace(&mut bytes);
-    printing::print_trace(&bytes[0..length]);
+    printing::start(Program::RunTrace);
 }
