@@ -11,14 +11,21 @@ use Rattle.machine.proofs.Laws.{cycle-unique, may-start-unique}
 use Rattle.machine.proofs.Steps.{step-unique, core-of-unique, machine-from-unique}
 use Rattle.run.specs.Runs.{runOf, zeroMachine, fullBudget}
 use Rattle.run.proofs.Laws.{run-unique}
-use Rattle.demands.specs.Calls.{Filling, Determined, Starts, TakesText, Performs, WritesBack, Decodes, LooksUp, Encodes, TakesImmediate, Plans, NamesImmediate, Cycles, StepsMachine, TakesApart, PutsTogether, MayStart, Runs, RunsFromZero, Checks, ReadsTrace, WritesTrace, Keeps, MakesLine, CycleLines, StateLines, RegisterLines, LastLines, PageLines, WordsLines, FaultLines}
+use Rattle.demands.specs.Calls.{Filling, Determined, Starts, TakesText, Performs, WritesBack, Decodes, LooksUp, Encodes, TakesImmediate, Plans, NamesImmediate, Cycles, StepsMachine, TakesApart, PutsTogether, MayStart, Runs, RunsFromZero, Checks, ReadsTrace, WritesTrace, Keeps, MakesLine, CycleLines, StateLines, RegisterLines, LastLines, PageLines, WordsLines, FaultLines, RemarkLines, FillingBoth, ShowsRun, ShowsWords, TakesPieces, EndsTexts}
 use Rattle.trace.proofs.Unique.{check-unique, read-unique, write-unique, kept-unique}
 use Rattle.lines.proofs.Answered.{makes-unique}
+use Rattle.pages.proofs.Unique.{writes-unique, take-text-unique, end-text-unique}
 
 -- the same answer and the same lent output
 same-filling : {A : Type 0} (x y : Filling A) → (x .answer ≡ y .answer) × (x .after ≡ y .after) → x ≡ y
 same-filling {A = A} x y e =
     ap (λ (a : A). record { answer = a; after = x .after }) (e .0) ∙ ap (λ (l : List ℕ). record { answer = y .answer; after = l }) (e .1)
+
+same-both : {A : Type 0} (x y : FillingBoth A) → (x .answer ≡ y .answer) × (x .out ≡ y .out) × (x .errors ≡ y .errors) → x ≡ y
+same-both {A = A} x y e =
+    ap (λ (a : A). record { answer = a; out = x .out; errors = x .errors }) (e .0)
+    ∙ ap (λ (l : List ℕ). record { answer = y .answer; out = l; errors = x .errors }) (e .1)
+    ∙ ap (λ (l : List ℕ). record { answer = y .answer; out = y .out; errors = l }) (e .2)
 
 makes-line : Determined MakesLine
 makes-line i x y f g = same-filling x y (makes-unique (i .0) (i .1) (x .answer) (y .answer) (x .after) (y .after) f g)
@@ -56,6 +63,12 @@ pub record EveryCall : Type 0 where
   pub page-line : Determined PageLines
   pub words-line : Determined WordsLines
   pub fault-line : Determined FaultLines
+  pub remark-line : Determined RemarkLines
+  pub hand-over : Determined MakesLine
+  pub run-trace : Determined ShowsRun
+  pub unpack-trace : Determined ShowsWords
+  pub take-text : Determined TakesPieces
+  pub end-text : Determined EndsTexts
 
 pub every-call : EveryCall
 every-call = record {
@@ -87,4 +100,12 @@ every-call = record {
   page-line = λ i. makes-line (_, i .3);
   words-line = λ i. makes-line (_, i .2);
   fault-line = λ i. makes-line (_, i .1);
+  remark-line = λ i. makes-line (_, i .2);
+  hand-over = makes-line;
+  run-trace = λ i x y f g. same-both x y (writes-unique _ _ (x .answer) (y .answer) (i .1) (i .2) (x .out) (x .errors) (y .out) (y .errors) f g);
+  unpack-trace = λ i x y f g. same-both x y (writes-unique _ _ (x .answer) (y .answer) (i .1) (i .2) (x .out) (x .errors) (y .out) (y .errors) f g);
+  take-text = λ i x y f g. same-both x y (take-text-unique (i .0) (i .1) (x .answer) (y .answer) (i .2) (i .3) (x .out) (x .errors) (y .out) (y .errors) f g);
+  end-text = λ i x y f g.
+      let u = end-text-unique (i .0) (x .answer .answer) (y .answer .answer) (i .1) (i .2) (i .3) (x .answer .after) (x .out) (x .errors) (y .answer .after) (y .out) (y .errors) f g in
+      same-both x y (same-filling (x .answer) (y .answer) (u .0, u .1), u .2, u .3);
 }

@@ -47,6 +47,15 @@ use Rattle.lines.specs.Lines.{cycleLine, stateLine, registerLine, lastLine}
 use Rattle.lines.specs.Answers.{Makes}
 use Rattle.lines.specs.Pages.{pageOf}
 use Rattle.lines.specs.Words.{wordsLine, faultLine}
+use Rattle.lines.specs.declared.Program.{Program}
+use Rattle.lines.specs.declared.Remark.{Remark}
+use Rattle.lines.specs.Remarks.{remarkLine}
+use Rattle.pages.specs.declared.Written.{Written}
+use Rattle.pages.specs.declared.PieceTaken.{PieceTaken}
+use Rattle.pages.specs.Writing.{Writes as WritesBoth}
+use Rattle.pages.specs.Running.{pageText, pageSaid}
+use Rattle.pages.specs.Unpacking.{unpackedText, unpackedSaid}
+use Rattle.pages.specs.Packing.{TakesPiece, EndsText}
 
 -- an answer, and lent output after the call
 pub record Filling (Answer : Type 0) : Type 0 where
@@ -166,3 +175,27 @@ WordsLines i o = MakesLine (wordsLine (i .0) (i .1), i .2) o
 
 abbrev pub FaultLines : Fault × List ℕ → Filling Line → Type 0
 FaultLines i o = MakesLine (faultLine (i .0), i .1) o
+
+abbrev pub RemarkLines : Program × Remark × List ℕ → Filling Line → Type 0
+RemarkLines i o = MakesLine (remarkLine (i .0) (i .1), i .2) o
+
+-- pages: an answer, and both lent slices after the call: for standard output and for standard error
+pub record FillingBoth (Answer : Type 0) : Type 0 where
+  pub answer : Answer
+  pub out : List ℕ
+  pub errors : List ℕ
+
+-- a trace, and both lent slices before the call
+abbrev pub ShowsRun : List ℕ × List ℕ × List ℕ → FillingBoth Written → Type 0
+ShowsRun i o = WritesBoth (pageText (i .0)) (pageSaid (i .0)) (o .answer) (i .1) (i .2) (o .out) (o .errors)
+
+abbrev pub ShowsWords : List ℕ × List ℕ × List ℕ → FillingBoth Written → Type 0
+ShowsWords i o = WritesBoth (unpackedText (i .0)) (unpackedSaid (i .0)) (o .answer) (i .1) (i .2) (o .out) (o .errors)
+
+-- a reader and a piece of a text, and the lent words and slice before the call; the words after it are the first of the two
+abbrev pub TakesPieces : Reader × List ℕ × List ℕ × List ℕ → FillingBoth PieceTaken → Type 0
+TakesPieces i o = TakesPiece (i .0) (i .1) (o .answer) (i .2) (i .3) (o .out) (o .errors)
+
+-- a reader at the end of a text, and the lent words, trace and slice before the call
+abbrev pub EndsTexts : Reader × List ℕ × List ℕ × List ℕ → FillingBoth (Filling Written) → Type 0
+EndsTexts i o = EndsText (i .0) (o .answer .answer) (i .1) (i .2) (i .3) (o .answer .after) (o .out) (o .errors)

@@ -1,20 +1,13 @@
 // Holds the examples to what is expected of them. Its arguments come in threes: what is expected, a text, and a file of it: "page" of the
-// run of its trace, or "words" of its cycles. Where a text has bad lines, what they lack is expected instead.
+// run of its trace, or "words" of its cycles. Where a text has bad lines, what they lack is expected instead. A text is packed, and its trace
+// run or unpacked, by the calls that the programs make.
 use libc::STDOUT_FILENO;
 use lines::Line;
-use printing::CYCLE_WORDS;
-use printing::LINE_BYTES;
-use run::MOST_CYCLES;
-use run::WORDS_PER_REPORT;
+use pages::PACKED_WORDS;
 use text::Reader;
-use text::Stop;
-ghost use Prim.Native.Nat.{_<_};
+ghost use Prim.Native.Nat.{_<_, _≤_};
+ghost use lib.ListN.{length};
 ghost use Rattle.io.specs.Counts.{Counts};
-
-const REPORT_WORDS: usize = WORDS_PER_REPORT * MOST_CYCLES;
-
-// The most lines that are expected of a text.
-const MOST_LINES: usize = MOST_CYCLES + 34;
 
 // The bytes of a file's name, and the most arguments.
 const NAME_BYTES: usize = 128;
@@ -58,88 +51,130 @@ fn after_line(expected: &[u8], at: usize, line: Line, text: &[u8]) -> usize {
     }
 }
 
-// The place after the page of the words' run.
-fn after_page(words: &[u16], expected: &[u8]) -> usize {
-    let mut reports = [0u16; REPORT_WORDS];
-    let ran = run::run_from_zero(words, &mut reports);
-    let mut at: usize = 0;
-    let mut i: usize = 0;
-    while i < MOST_LINES {
-        let mut text = [0u8; LINE_BYTES];
-        let line = lines::page_line(ran, &reports, i, &mut text);
-        at = after_line(expected, at, line, &text);
-        i += 1;
-    }
-    at
+// The place after the page of a trace's run.
+fn after_page(trace: &[u8], expected: &[u8], at: usize) -> usize {
+    let mut text = [0u8; pages::PAGE_BYTES];
+    let mut said = [0u8; lines::REMARK_BYTES];
+    let written = pages::run_trace(trace, &mut text, &mut said);
+    let output = written.output;
+    after_line(expected, at, output, &text)
 }
 
-// The place after the lines of the words.
-fn after_words(words: &[u16], expected: &[u8]) -> usize {
-    let mut at: usize = 0;
-    let mut i: usize = 0;
-    while i < MOST_LINES {
-        let mut text = [0u8; LINE_BYTES];
-        let line = lines::words_line(words, i, &mut text);
-        at = after_line(expected, at, line, &text);
-        i += 1;
-    }
-    at
+// The place after a trace's words.
+fn after_words(trace: &[u8], expected: &[u8], at: usize) -> usize {
+    let mut text = [0u8; pages::TEXT_BYTES];
+    let mut said = [0u8; lines::REMARK_BYTES];
+    let written = pages::unpack_trace(trace, &mut text, &mut said);
+    let output = written.output;
+    after_line(expected, at, output, &text)
 }
 
-// The reader after some text, and the place after its faults.
-struct Named {
+// The reader after some lines, the place after what is said of them, and whether one is bad.
+struct Said {
     reader: Reader,
     at: usize,
+    bad: bool,
 }
 
-fn after_faults(before: Named, text: &[u8], words: &mut [u16], expected: &[u8]) -> Named {
+// A reader that knows of so many bad lines: a text has only its first twenty named, and here all are held to what is expected.
+fn knowing(reader: Reader, faults: u64) -> Reader {
+    let place = reader.place;
+    Reader {
+        line: reader.line,
+        column: reader.column,
+        words: reader.words,
+        place: place,
+        found: reader.found,
+        faults: faults,
+    }
+}
+
+fn after_piece(
+    before: Said,
+    piece: &[u8],
+    words: &mut [u16; PACKED_WORDS],
+    expected: &[u8],
+) -> Said {
     let start = before.reader;
-    let mut state = start;
-    let mut at = before.at;
-    let mut from: usize = 0;
-    while from < text.len() {
-        let taken = text::take(state, &text[from..], words);
-        let next = taken.reader;
-        let stop = taken.stop;
-        state = next;
-        from += taken.bytes;
-        match stop {
-            Stop::TextEnd => {}
-            Stop::Bad(fault) => {
-                let mut said = [0u8; LINE_BYTES];
-                let line = lines::fault_line(fault, &mut said);
-                at = after_line(expected, at, line, &said);
-            }
+    let mut said = [0u8; pages::SAID_BYTES];
+    let taken = pages::take_text(knowing(start, 0), piece, words, &mut said);
+    let next = taken.reader;
+    let told = taken.said;
+    Said {
+        reader: next,
+        at: after_line(expected, before.at, told, &said),
+        bad: before.bad || next.faults > 0,
+    }
+}
+
+// The place after the next line feed, or the end of the text.
+fn line_end(text: &[u8], from: usize) -> usize
+    requires { ⌜ from < length (now text) ⌝ }
+    ensures { λ r. ⌜ (from < r) × (r ≤ length (now (text .entry))) ⌝ }
+{
+    let mut i = from;
+    while i < text.len() {
+        i += 1;
+        if text[i - 1] == b'\n' {
+            return i;
         }
     }
-    Named {
-        reader: state,
-        at: at,
+    i
+}
+
+// Takes a text line by line.
+fn after_lines(text: &[u8], words: &mut [u16; PACKED_WORDS], expected: &[u8]) -> Said {
+    let mut said = Said {
+        reader: text::start(),
+        at: 0,
+        bad: false,
+    };
+    let mut from: usize = 0;
+    while from < text.len() {
+        let end = line_end(text, from);
+        said = after_piece(said, &text[from..end], words, expected);
+        from = end;
+    }
+    said
+}
+
+// The place after what comes of a trace that was packed.
+fn after_trace(kind: u8, trace: &[u8], expected: &[u8], at: usize) -> usize {
+    if kind == b'w' {
+        after_words(trace, expected, at)
+    } else {
+        after_page(trace, expected, at)
     }
 }
 
-// The place after what a text comes to.
+fn after_blocks(kind: u8, output: Line, blocks: &[u8], expected: &[u8], at: usize) -> usize {
+    match output {
+        Line::NoRoom => WRONG,
+        Line::Made(n) => {
+            if blocks.len() < n {
+                return WRONG;
+            }
+            after_trace(kind, &blocks[0..n], expected, at)
+        }
+    }
+}
+
+// The place after what a text comes to: its faults, or what its trace gives.
 fn after_all(kind: u8, text: &[u8], expected: &[u8]) -> usize {
-    let mut words = [0u16; CYCLE_WORDS];
-    let mut named = Named {
-        reader: text::start(),
-        at: 0,
-    };
-    named = after_faults(named, text, &mut words, expected);
-    named = after_faults(named, b"\n", &mut words, expected);
-    let reader = named.reader;
-    if reader.faulty {
-        return named.at;
+    let mut words = [0u16; PACKED_WORDS];
+    let lines = after_lines(text, &mut words, expected);
+    let reader = lines.reader;
+    let mut blocks = [0u8; trace::TRACE_BYTES];
+    let mut said = [0u8; pages::SAID_BYTES];
+    let faults = if lines.bad { 1 } else { 0 };
+    let written = pages::end_text(knowing(reader, faults), &mut words, &mut blocks, &mut said);
+    let told = written.said;
+    let at = after_line(expected, lines.at, told, &said);
+    if lines.bad || lines.at < at {
+        return at;
     }
-    let found = reader.found;
-    if CYCLE_WORDS < found {
-        return WRONG;
-    }
-    if kind == b'w' {
-        after_words(&words[0..found], expected)
-    } else {
-        after_page(&words[0..found], expected)
-    }
+    let output = written.output;
+    after_blocks(kind, output, &blocks, expected, at)
 }
 
 // Reads the file that an argument names, and answers how long it is.

@@ -2,6 +2,7 @@
 // L bytes; the trace is the payload and Z zeros after it.
 use libc::STDIN_FILENO;
 use libc::STDOUT_FILENO;
+use lines::Line;
 ghost use Prim.Native.Nat.{_≤_, _<_};
 ghost use lib.ListN.{length};
 
@@ -48,6 +49,23 @@ fn print_title(number: usize) {
     print(b"\n");
 }
 
+// Prints the page of a trace.
+fn print_page(trace: &[u8]) {
+    let mut text = [0u8; pages::PAGE_BYTES];
+    let mut said = [0u8; lines::REMARK_BYTES];
+    let written = pages::run_trace(trace, &mut text, &mut said);
+    let output = written.output;
+    match output {
+        Line::NoRoom => print(b"no room\n"),
+        Line::Made(n) => {
+            if text.len() < n {
+                return print(b"too long\n");
+            }
+            print(&text[..n]);
+        }
+    }
+}
+
 // Reads the payload into zeros and prints the page, and answers whether the payload is there.
 fn print_payload(number: usize, payload: usize, bytes: &mut [u8]) -> bool
     requires { ⌜ payload ≤ length (now bytes) ⌝ }
@@ -56,7 +74,7 @@ fn print_payload(number: usize, payload: usize, bytes: &mut [u8]) -> bool
         return false;
     }
     print_title(number);
-    printing::print_trace(bytes);
+    print_page(bytes);
     true
 }
 

@@ -4,3 +4,5 @@ pub mod Gathered
 pub mod Pieces
 pub mod Answers
 pub mod Outs
+pub mod Unique
+pub mod Laws

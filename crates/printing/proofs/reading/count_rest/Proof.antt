@@ -1,6 +1,5 @@
 -- `printing::reading::count_rest` meets its contract: what is kept stays short, and the turns get fewer.
 use Prim.Native.Nat.{_≤_, _+_}
-
 use native.Mathlib.Omega.{arith}
 use Rattle.trace.proofs.Long.{kept-lt}
 use borrow.Author.Needs.{needs}
