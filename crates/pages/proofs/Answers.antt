@@ -1,21 +1,21 @@
 -- What the reader's, the writer's and the run's answers say of the texts that are made of them.
-use mathlib.Core.Path.{_≡_, refl, sym, ap, subst, _∙_}
+use mathlib.Core.Path.{_≡_, refl, sym, ap, _∙_}
 use mathlib.Core.Bool.{Bool, true, false}
-use mathlib.Core.List.{List, [], _∷_, _++_}
-use Prim.Native.Nat.{ℕ, _+_, _-_, _*_, _≤_}
+use mathlib.Core.List.{List, _++_}
+use Prim.Native.Nat.{ℕ, _+_, _*_, _≤_}
 use native.Mathlib.Omega.{arith}
 use mathlib.Core.Option.{none, some}
 use lib.Dec.{eqb, leb}
 use lib.ListN.{length, take, drop, getD, length-append, length-drop, length-take}
 use lib.Seq.{take-at, take-all}
-use Rattle.choice.specs.Tells.{Placed, acceptedWhole, refusedAt}
+use Rattle.choice.specs.Tells.{Placed}
 use Rattle.machine.specs.declared.Waiting.{Waiting}
 use Rattle.run.specs.declared.Ending.{Ending}
 use Rattle.run.specs.declared.Ending.the-variants.{Done, Stopped, Refused}
 use Rattle.run.specs.declared.Ran.{Ran}
 use Rattle.run.specs.Splitting.{wordsPerReport, wordsPerCycle, cycleAt, cyclesIn}
-use Rattle.run.specs.Courses.{Course, runFrom, reportsOf}
-use Rattle.run.specs.Runs.{mostCycles, startRefusal, runOf, zeroMachine, fullBudget, Summary, summaryOf, ranTells, Gives}
+use Rattle.run.specs.Courses.{Course, reportsOf}
+use Rattle.run.specs.Runs.{mostCycles, startRefusal, runOf, zeroMachine, fullBudget, summaryOf, ranTells, Gives}
 use Rattle.run.proofs.Courses.{reports-length, steps-le}
 use Rattle.run.proofs.Starting.{started, refused-whole}
 use borrow.Author.Tests.{eqb-true, leb-true, leb-false}

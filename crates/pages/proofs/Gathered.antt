@@ -1,7 +1,7 @@
 -- A text gathered by calls of `take`, one after another.
-use mathlib.Core.Path.{_≡_, refl, sym, ap, subst, _∙_}
-use mathlib.Core.List.{List, [], _∷_, _++_, append-assoc, append-nil}
-use Prim.Native.Nat.{ℕ, zero, suc, _+_, _-_, _*_, _≤_, _<_}
+use mathlib.Core.Path.{_≡_, refl, sym, ap, _∙_}
+use mathlib.Core.List.{List, [], _∷_}
+use Prim.Native.Nat.{ℕ, suc, _+_, _-_, _≤_}
 use mathlib.Core.Bool.{Bool, true, false}
 use native.Mathlib.Nat.{add-zero}
 use native.Mathlib.Omega.{arith}
@@ -13,8 +13,7 @@ use Rattle.text.specs.declared.Expected.{Expected}
 use Rattle.text.specs.declared.Reader.{Reader}
 use Rattle.text.specs.declared.Fault.{Fault}
 use Rattle.text.specs.declared.Stop.{Stop}
-use Rattle.text.specs.declared.Taken.{Taken}
-use Rattle.text.specs.Taking.{oneMore, nextLine, nextColumn, passed, keptWord, withWord, withFault, faultAt, Took, stopsAt, moveAt, metBy, takeFrom}
+use Rattle.text.specs.Taking.{oneMore, nextLine, nextColumn, passed, keptWord, withWord, withFault, faultAt, Took, stopsAt, moveAt, takeFrom}
 use Rattle.text.proofs.Laws.{met-all, met-both, some-bytes}
 use Rattle.pages.specs.Packing.{Gathered, faultThen, gatherFrom}
 

@@ -1,5 +1,5 @@
 -- The ways out of the calls, each over plain variables.
-use mathlib.Core.Path.{_≡_, refl, sym, ap, subst, _∙_}
+use mathlib.Core.Path.{_≡_, sym, ap, subst, _∙_}
 use mathlib.Core.Bool.{Bool, true, false}
 use mathlib.Core.List.{List, [], _++_, append-nil, append-assoc}
 use Prim.Native.Nat.{ℕ, _+_, _-_, _*_, _≤_}
@@ -10,8 +10,6 @@ use lib.ListN.{length, take, drop, getD}
 use lib.Seq.{take-at, drop-at}
 use borrow.Author.Tests.{eq-eqb, ne-eqb}
 use Rattle.choice.specs.Pick.{pick}
-use Rattle.machine.specs.declared.Waiting.{Waiting}
-use Rattle.run.specs.declared.Ending.{Ending}
 use Rattle.run.specs.declared.Ran.{Ran}
 use Rattle.run.specs.Splitting.{wordsPerReport}
 use Rattle.run.specs.Courses.{reportsOf}

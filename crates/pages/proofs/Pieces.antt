@@ -1,8 +1,8 @@
 -- The loop that takes a piece of a text and names its bad lines.
 use mathlib.Core.Path.{_≡_, refl, sym, ap, subst, _∙_}
 use mathlib.Core.Bool.{Bool, true, false}
-use mathlib.Core.List.{List, [], _∷_, _++_, append-assoc, append-nil}
-use Prim.Native.Nat.{ℕ, zero, suc, _+_, _-_, _*_, _≤_, _<_}
+use mathlib.Core.List.{List, [], _++_, append-assoc, append-nil}
+use Prim.Native.Nat.{ℕ, _+_, _-_, _*_, _≤_, _<_}
 use native.Mathlib.Nat.{add-zero, sub-zero}
 use native.Mathlib.Omega.{arith}
 use lib.Dec.{ltb}
@@ -20,7 +20,6 @@ use Rattle.lines.specs.Putting.{Puts}
 use Rattle.lines.specs.Words.{faultLine}
 use Rattle.lines.proofs.Putting.{puts-both}
 use Rattle.lines.proofs.Longest.{fault-line-le}
-use Rattle.pages.specs.declared.Named.{Named}
 use Rattle.pages.specs.Packing.{Gathered, faultThen, gatherFrom, mostNamed, namedFrom}
 use Rattle.pages.specs.Naming.{faultBytes, namedBytes, Names}
 use Rattle.pages.proofs.Gathered.{goesOn, Says, gather-take, take-says}

@@ -1,7 +1,6 @@
 -- `example_cases::after_lines` meets its contract: every line takes some of what is left.
 use Prim.Native.Nat.{_-_, _≤_}
-use native.Mathlib.Omega.{arith}
-use lib.ListN.{length, length-take, length-drop}
+use lib.ListN.{length}
 use borrow.Author.Needs.{needs}
 use Rattle.example_cases.proofs.after_lines.Statement.{statement}
 use Rattle.example_cases.proofs.after_lines.Tie as tie

@@ -1,5 +1,5 @@
 -- `pages::packing::is_mark` meets its contract: its tests are the definition's.
-use borrow.Author.Tests.{eq-eqb, ne-eqb, lt-ltb, le-ltb}
+use borrow.Author.Tests.{eq-eqb, ne-eqb}
 use Rattle.pages.proofs.packing.is_mark.Statement.{statement}
 use Rattle.pages.proofs.packing.is_mark.Tie as tie
 

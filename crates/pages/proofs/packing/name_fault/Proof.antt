@@ -1,6 +1,6 @@
 -- `pages::packing::name_fault` meets its contract: a line, or none.
 use native.Mathlib.Omega.{arith}
-use borrow.Author.Tests.{eq-eqb, ne-eqb, lt-ltb, le-ltb}
+use borrow.Author.Tests.{lt-ltb, le-ltb}
 use Rattle.lines.specs.Words.{faultLine}
 use Rattle.lines.proofs.Putting.{puts-nothing}
 use Rattle.lines.proofs.Longest.{fault-line-le}

@@ -1,6 +1,6 @@
 -- `pages::packing::say_mark` meets its contract: a line at the start of a text that has a mark.
 use native.Mathlib.Omega.{arith}
-use borrow.Author.Tests.{eq-eqb, ne-eqb, lt-ltb, le-ltb}
+use borrow.Author.Tests.{eq-eqb, ne-eqb}
 use Rattle.lines.proofs.Putting.{puts-nothing}
 use Rattle.pages.proofs.Outs.{unmarked, marked}
 use borrow.Author.Needs.{needs}

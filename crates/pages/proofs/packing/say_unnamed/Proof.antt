@@ -4,7 +4,7 @@ use Rattle.lines.specs.declared.Program.the-variants.{PackTrace}
 use Rattle.lines.specs.declared.Remark.the-variants.{Unnamed}
 use Rattle.lines.specs.Remarks.{remarkLine}
 use native.Mathlib.Omega.{arith}
-use borrow.Author.Tests.{eq-eqb, ne-eqb, lt-ltb, le-ltb}
+use borrow.Author.Tests.{lt-ltb, le-ltb}
 use Rattle.lines.proofs.Putting.{puts-nothing}
 use Rattle.lines.proofs.Longest.{remark-line-le}
 use Rattle.pages.proofs.Together.{made-at, made-bytes}

@@ -1,8 +1,7 @@
 -- `pages::packing::take_piece` meets its contract: every turn takes some of what is left.
 use borrow.Author.Tests.{ltb-true}
 use borrow.Author.Needs.{needs}
-use mathlib.Core.Path.{_≡_}
-use Prim.Native.Nat.{ℕ, _+_, _-_, _*_, _≤_}
+use Prim.Native.Nat.{_-_}
 use native.Mathlib.Omega.{arith}
 use lib.ListN.{length}
 use Rattle.text.proofs.Laws.{left-some}

@@ -1,7 +1,6 @@
 -- `pages::running::run_trace` meets its contract: by the reader's answer.
 use native.Mathlib.Omega.{arith}
 use lib.ListN.{length-take}
-use Rattle.lines.proofs.Answered.{nothing-made}
 use Rattle.pages.proofs.Outs.{read-le, page-refused, page-read}
 use Rattle.lines.specs.Lines.{lastLine}
 use borrow.Author.Needs.{needs}

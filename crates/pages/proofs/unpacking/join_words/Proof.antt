@@ -1,10 +1,9 @@
 -- `pages::unpacking::join_words` meets its contract: the lines still to come get fewer.
 use borrow.Author.Needs.{needs}
-use mathlib.Core.Path.{_≡_, sym, subst, refl}
+use mathlib.Core.Path.{subst}
 use mathlib.Core.List.{List}
-use Prim.Native.Nat.{ℕ, _+_, _-_, _*_, _≤_}
+use Prim.Native.Nat.{ℕ, _-_}
 use native.Mathlib.Omega.{arith}
-use lib.ListN.{length}
 use Rattle.lines.specs.Words.{wordsLine}
 use Rattle.lines.specs.Putting.{Puts}
 use Rattle.pages.proofs.Together.{Joins, begun, at-le, turn, grown, ended}

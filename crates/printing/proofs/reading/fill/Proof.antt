@@ -1,7 +1,6 @@
 -- `printing::reading::fill` meets its contract: every read leaves less to be read.
-use mathlib.Core.Path.{_≡_, refl}
+use mathlib.Core.Path.{_≡_}
 use Prim.Native.Nat.{_-_, _≤_}
-use native.Mathlib.Omega.{arith}
 use lib.ListN.{length}
 use borrow.Author.Needs.{needs}
 use Rattle.printing.proofs.reading.fill.Statement.{statement}
