@@ -1,7 +1,9 @@
 // Input, and whether it could be read.
 use crate::Input;
-ghost use Prim.Native.Nat.{_≤_};
+ghost use Prim.Native.Nat.{_+_, _≤_, _<_};
 ghost use lib.ListN.{length};
+ghost use Rattle.trace.specs.Layout.{wordsPerRecord, blockBytes};
+ghost use Rattle.trace.specs.Limits.{tooLong};
 
 // What is read at once of an input whose length has no limit.
 pub(crate) const CHUNK: usize = 4096;
@@ -54,8 +56,8 @@ pub(crate) fn fill(file: i32, bytes: &mut [u8]) -> Input
 
 // How much of a trace is kept, with the rest of it counted: `first` bytes are read already.
 fn count_rest(file: i32, first: usize) -> Input
-    requires { ⌜ first ≤ 26112 ⌝ }
-    ensures { λ r. ⌜ r .bytes ≤ 26111 ⌝ }
+    requires { ⌜ first ≤ tooLong wordsPerRecord + blockBytes ⌝ }
+    ensures { λ r. ⌜ r .bytes < tooLong wordsPerRecord + blockBytes ⌝ }
 {
     let mut kept = trace::kept(first);
     // more chunks than there is time for
