@@ -1,11 +1,12 @@
 // Runs the programs for traces over the files that its arguments name. They come in threes: a program, how its output goes ("written", or
-// "blocked" where it cannot be written), and a file. Each case has a line with the three, and then what the program writes and says.
+// "blocked" where it cannot be written), and a file. Each case has a line with the three, and then what the program writes and says, both on
+// standard output.
 use libc::STDOUT_FILENO;
 use lines::Program;
 use printing::Files;
 ghost use Prim.Native.Nat.{_<_};
 
-// The bytes of an argument, and the most arguments.
+// The most bytes of an argument, and the most arguments: more are passed over.
 const NAME_BYTES: usize = 64;
 
 const MOST_ARGUMENTS: usize = 1000;

@@ -55,7 +55,7 @@ pub enum Remark {
     Refusal(u8, usize, u16, u16),
 }
 
-// Room for the longest line.
+// Room for the longest line of a run.
 const LONGEST: usize = 64;
 
 // An accepted cycle: its number and the four words of its report.

@@ -9,8 +9,8 @@ ghost use lib.ListN.{length};
 // The bytes of a header line, the line feed too.
 const HEADER: usize = 14;
 
-// The most bytes of a trace, and the most cases.
-const MOST: usize = 26111;
+// The most bytes that are kept of an input, and the most cases.
+const MOST: usize = trace::INPUT_BYTES - 1;
 
 const CASES: usize = 10000;
 

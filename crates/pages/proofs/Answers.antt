@@ -109,7 +109,7 @@ ran-told r = by-ending (r .ending)
     by-ending Stopped = refl
     by-ending (Refused k i) = refl
 
-few-steps : (words : List ℕ) → length (courseOf words .steps) ≤ mostCycles
+pub few-steps : (words : List ℕ) → length (courseOf words .steps) ≤ mostCycles
 few-steps words = by-test (eqb (startRefusal zeroMachine words (wordsPerReport * mostCycles)) 0) refl
   where
     by-test : (b : Bool) → eqb (startRefusal zeroMachine words (wordsPerReport * mostCycles)) 0 ≡ b → length (courseOf words .steps) ≤ mostCycles

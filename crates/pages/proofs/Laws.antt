@@ -1,16 +1,18 @@
 -- What is kept of a long input is answered as all of it would be, and a text may come in pieces.
 use mathlib.Core.Path.{_≡_, refl, sym, ap, _∙_}
 use mathlib.Core.Bool.{Bool, true, false}
-use mathlib.Core.List.{List, [], _∷_, _++_}
+use mathlib.Core.List.{List, [], _∷_, _++_, append-assoc}
 use Prim.Native.Nat.{ℕ, _*_, _%_, _≤_, _<_}
 use native.Mathlib.Omega.{arith}
 use lib.Dec.{eqb, ltb}
 use lib.ListN.{length}
 use borrow.Author.Tests.{eqb-true, eqb-false, ltb-true, ltb-false}
+use Rattle.choice.specs.Pick.{pick}
 use Rattle.choice.specs.Tells.{Placed, refusedAt}
 use Rattle.run.specs.Runs.{mostCycles}
+use Rattle.text.specs.declared.Fault.{Fault}
 use Rattle.text.specs.declared.Reader.{Reader}
-use Rattle.text.specs.Taking.{passed, keptWord, withWord, withFault, faultAt, moveAt}
+use Rattle.text.specs.Taking.{oneMore, passed, keptWord, withWord, withFault, faultAt, moveAt}
 use Rattle.text.proofs.Laws.{met-both}
 use Rattle.trace.specs.Layout.{wordsPerRecord, blockBytes}
 use Rattle.trace.specs.Limits.{tooLong, keptLength}
@@ -19,10 +21,10 @@ use Rattle.trace.proofs.Answered.{read-11, read-many}
 use Rattle.trace.proofs.Long.{kept-answers}
 use Rattle.lines.specs.declared.Program.the-variants.{RunTrace, UnpackTrace}
 use Rattle.lines.specs.Lines.{refusedLine}
-use Rattle.lines.specs.Words.{textOf}
+use Rattle.lines.specs.Words.{textOf, faultLine}
 use Rattle.pages.specs.Running.{readingOf, ifAccepted, refusalSaid, runText, runSaid, pageText, pageSaid}
 use Rattle.pages.specs.Unpacking.{unpackedText, unpackedSaid}
-use Rattle.pages.specs.Packing.{Gathered, faultThen, gatherFrom}
+use Rattle.pages.specs.Packing.{Gathered, faultThen, gatherFrom, mostNamed, namedFrom}
 
 -- a trace that is too long is refused, whatever it would have made
 module _ (t : List ℕ) (long : tooLong wordsPerRecord ≤ length t) (x y : List ℕ) (refusal : ℕ → ℕ → List ℕ) where
@@ -78,3 +80,14 @@ gather-pieces s (b ∷ text) more words =
     (gather-pieces next text more words)
     (λ y. gather-pieces (withWord next (length words)) text more (keptWord (s .found) y words))
     (λ e. ap (faultThen (faultAt s e)) (gather-pieces (withFault next) text more words))
+
+-- how many lines are bad after some more, and what is named of them in pieces
+abbrev pub badAfter : ℕ → List Fault → ℕ
+badAfter k [] = k
+badAfter k (f ∷ faults) = badAfter (oneMore k) faults
+
+pub named-pieces : (k : ℕ) (xs ys : List Fault) → namedFrom k (xs ++ ys) ≡ namedFrom k xs ++ namedFrom (badAfter k xs) ys
+named-pieces k [] ys = refl
+named-pieces k (f ∷ xs) ys =
+    let here = pick (ltb k mostNamed) (faultLine f) [] in
+    ap (λ (l : List ℕ). here ++ l) (named-pieces (oneMore k) xs ys) ∙ sym (append-assoc here (namedFrom (oneMore k) xs) (namedFrom (badAfter (oneMore k) xs) ys))

@@ -1,20 +1,46 @@
--- No page is longer than the room for it, and no text of a trace.
+-- No page is longer than the room for it, nor is anything that is said.
 use mathlib.Core.Path.{_≡_, refl, sym, ap, _∙_}
+use mathlib.Core.Bool.{Bool, true, false}
+use mathlib.Core.Option.{Option, none, some}
 use mathlib.Core.List.{List, [], _∷_, _++_, append-assoc}
-use Prim.Native.Nat.{ℕ, zero, suc, _+_, _*_, _/_, _≤_, _<_}
+use Prim.Native.Nat.{ℕ, zero, suc, _+_, _-_, _*_, _/_, _≤_, _<_}
 use native.Mathlib.Nat.{add-zero, mul-suc}
 use native.Mathlib.Numerals.{add-one}
 use native.Mathlib.Omega.{arith}
 use lib.ListN.{length, getD, length-append}
+use lib.Dec.{eqb, ltb}
+use borrow.Author.Tests.{ltb-true, ltb-false, lt-ltb}
+use Rattle.choice.specs.Pick.{pick}
+use Rattle.choice.specs.Tells.{Placed}
+use Rattle.choice.proofs.Picks.{picked}
+use Rattle.machine.specs.declared.Waiting.{Waiting}
+use Rattle.machine.specs.declared.Waiting.the-variants.{Nothing, Held}
+use Rattle.text.specs.declared.Fault.{Fault}
+use Rattle.text.specs.declared.Reader.{Reader}
+use Rattle.text.specs.Taking.{mostCounted, oneMore}
 use Rattle.text.specs.Lines.{wordsPerLine}
+use Rattle.run.specs.declared.Ending.{Ending}
+use Rattle.run.specs.declared.Ending.the-variants.{Done, Stopped, Refused}
+use Rattle.run.specs.Splitting.{cycleAt}
+use Rattle.run.specs.Courses.{reportsOf}
+use Rattle.trace.specs.Reading.{readWords}
 use Rattle.run.specs.declared.Ran.{Ran}
 use Rattle.run.specs.Runs.{mostCycles}
-use Rattle.trace.specs.Layout.{joined}
-use Rattle.lines.specs.Lines.{stateLine, registerLine, lastLine}
+use Rattle.trace.specs.Layout.{wordsPerRecord, joined}
+use Rattle.lines.specs.declared.Program.{Program}
+use Rattle.lines.specs.declared.Program.the-variants.{RunTrace, PackTrace, UnpackTrace}
+use Rattle.lines.specs.declared.Remark.the-variants.{Waits, Marked, Unnamed, Refusal}
+use Rattle.lines.specs.Remarks.{remarkLine}
+use Rattle.lines.specs.Lines.{stateLine, registerLine, refusedLine, lastLine}
 use Rattle.lines.specs.Pages.{reportLine, linesFrom, registerCount, pageOf}
-use Rattle.lines.specs.Words.{wordsLine, textFrom, textOf}
-use Rattle.lines.proofs.Longest.{cycle-line-le, state-line-le, register-line-le, last-line-le, words-line-le}
+use Rattle.lines.specs.Words.{wordsLine, textFrom, textOf, faultLine}
+use Rattle.lines.proofs.Longest.{cycle-line-le, state-line-le, register-line-le, refused-line-le, last-line-le, words-line-le, fault-line-le, remark-line-le}
 use Rattle.lines.proofs.Shown.{page-length}
+use Rattle.pages.specs.Running.{readingOf, ifAccepted, refusalSaid, courseOf, ranFrom, runText, waitSaid, endSaid, runSaid, pageText, pageSaid}
+use Rattle.pages.specs.Unpacking.{unpackedSaid}
+use Rattle.pages.specs.Packing.{Gathered, gatherFrom, mostNamed, namedFrom, isMark, atStart, markSaid, pieceSaid, foundWords, writingOf, writtenSaid, ifSound, unnamedSaid, packedSaid}
+use Rattle.pages.specs.Naming.{faultBytes, remarkBytes, namedBytes}
+use Rattle.pages.proofs.Answers.{few-steps}
 
 -- the lines of a list by their places
 lines-same : (f g : ℕ → List ℕ) (i j n : ℕ) → ((k : ℕ) → f (i + k) ≡ g (j + k)) → linesFrom f i n ≡ linesFrom g j n
@@ -98,3 +124,103 @@ text-fits words h =
     let n = length words / wordsPerLine in
     let all : length (joined (linesFrom (wordsLine words) 0 n)) ≤ 15 * n = lines-le 15 (wordsLine words) 0 n (λ k l. words-line-le words k) in
     rw (← all-text words) (omega (arith, all, h))
+
+-- what `runtrace` writes and says of any trace, and what `unpacktrace` says
+module _ (answer : Placed ℕ) (text : List ℕ) (refusal : ℕ → ℕ → List ℕ) (b : ℕ) (p : length text ≤ b) (q : (k i : ℕ) → length (refusal k i) ≤ b) where
+  either-fits : length (ifAccepted answer text refusal) ≤ b
+  either-fits = by-value (answer .told .value)
+    where
+      by-value : (v : Option ℕ) → length (ifAccepted (record { told = record { number = answer .told .number; value = v }; index = answer .index }) text refusal) ≤ b
+      by-value (some n) = p
+      by-value none = q (answer .told .number) (answer .index)
+
+run-text-fits : (words : List ℕ) → length (runText words) ≤ pageBytes
+unfolding runText
+run-text-fits words = page-fits (ranFrom words) (reportsOf (courseOf words .steps)) (few-steps words)
+
+pub page-text-fits : (t : List ℕ) → length (pageText t) ≤ pageBytes
+unfolding pageText
+page-text-fits t =
+    either-fits (readingOf t) (runText (readWords wordsPerRecord t)) refusedLine pageBytes (run-text-fits (readWords wordsPerRecord t)) (λ k i. omega (arith, refused-line-le k i))
+
+refusal-said-fits : (program : Program) (k i : ℕ) → length (refusalSaid program k i) ≤ remarkBytes
+refusal-said-fits program k i = remark-line-le program (Refusal k i 0 0)
+
+wait-said-fits : (w : Waiting) → length (waitSaid w) ≤ remarkBytes
+wait-said-fits Nothing = omega arith
+wait-said-fits (Held w) = remark-line-le RunTrace (Waits w)
+
+end-said-fits : (words : List ℕ) (e : Ending) (w : Waiting) → length (endSaid words e w) ≤ remarkBytes
+end-said-fits words Done w = wait-said-fits w
+end-said-fits words Stopped w = wait-said-fits w
+end-said-fits words (Refused k i) w = remark-line-le RunTrace (Refusal k i (cycleAt words i .lines) (cycleAt words i .pins))
+
+run-said-fits : (words : List ℕ) → length (runSaid words) ≤ remarkBytes
+unfolding runSaid
+run-said-fits words = end-said-fits words (ranFrom words .ending) (ranFrom words .machine .registers .waiting)
+
+pub page-said-fits : (t : List ℕ) → length (pageSaid t) ≤ remarkBytes
+unfolding pageSaid
+page-said-fits t = either-fits (readingOf t) (runSaid (readWords wordsPerRecord t)) (refusalSaid RunTrace) remarkBytes (run-said-fits (readWords wordsPerRecord t)) (refusal-said-fits RunTrace)
+
+pub unpacked-said-fits : (t : List ℕ) → length (unpackedSaid t) ≤ remarkBytes
+unfolding unpackedSaid
+unpacked-said-fits t = either-fits (readingOf t) [] (refusalSaid UnpackTrace) remarkBytes (omega arith) (refusal-said-fits UnpackTrace)
+
+-- what `packtrace` says of a piece, and at the end of a text
+one-more-up : (k : ℕ) → k < mostNamed → oneMore k ≡ k + 1
+one-more-up k l = picked (ltb k mostCounted) (k + 1) k (lt-ltb k mostCounted (omega arith))
+
+one-more-no-less : (k : ℕ) → k ≤ oneMore k
+one-more-no-less k = by-test (ltb k mostCounted)
+  where
+    by-test : (b : Bool) → k ≤ pick b (k + 1) k
+    by-test true = omega arith
+    by-test false = omega arith
+
+named-fits : (k : ℕ) (faults : List Fault) → length (namedFrom k faults) ≤ faultBytes * (mostNamed - k)
+named-fits k [] = omega arith
+named-fits k (f ∷ faults) = by-test (ltb k mostNamed) refl (named-fits (oneMore k) faults)
+  where
+    by-test : (b : Bool) → ltb k mostNamed ≡ b → length (namedFrom (oneMore k) faults) ≤ faultBytes * (mostNamed - oneMore k)
+        → length (pick b (faultLine f) [] ++ namedFrom (oneMore k) faults) ≤ faultBytes * (mostNamed - k)
+    by-test true q more =
+        let l : k < mostNamed = ltb-true k mostNamed q in
+        rw (length-append (faultLine f) (namedFrom (oneMore k) faults)) (omega (arith, more, fault-line-le f, one-more-up k l, l))
+    by-test false q more = omega (arith, more, one-more-no-less k, ltb-false k mostNamed q)
+
+mark-said-fits : (s : Reader) (text : List ℕ) → length (markSaid s text) ≤ remarkBytes
+mark-said-fits s text = by-tests (atStart s) (isMark (getD text 0 0) (getD text 1 0) (getD text 2 0))
+  where
+    by-tests : (a b : Bool) → length (pick a (pick b (remarkLine PackTrace Marked) []) []) ≤ remarkBytes
+    by-tests true true = remark-line-le PackTrace Marked
+    by-tests true false = omega arith
+    by-tests false b = omega arith
+
+abbrev pub saidBytes : ℕ
+saidBytes = namedBytes + remarkBytes + remarkBytes
+
+pub piece-said-fits : (s : Reader) (text words : List ℕ) → length (pieceSaid s text words) ≤ saidBytes
+unfolding pieceSaid
+piece-said-fits s text words =
+    rw (length-append (markSaid s text) (namedFrom (s .faults) (gatherFrom s text words .faults)))
+    (omega (arith, mark-said-fits s text, named-fits (s .faults) (gatherFrom s text words .faults)))
+
+unnamed-said-fits : (k : ℕ) → length (unnamedSaid k) ≤ remarkBytes
+unnamed-said-fits k = by-test (ltb mostNamed k)
+  where
+    by-test : (b : Bool) → length (pick b (remarkLine PackTrace (Unnamed (k - mostNamed))) []) ≤ remarkBytes
+    by-test true = remark-line-le PackTrace (Unnamed (k - mostNamed))
+    by-test false = omega arith
+
+sound-fits : (b : Bool) (text : List ℕ) (n : ℕ) → length text ≤ n → length (pick b text []) ≤ n
+sound-fits true text n h = h
+sound-fits false text n h = omega arith
+
+pub packed-said-fits : (s : Reader) (g : Gathered) (room : ℕ) → length (packedSaid s g room) ≤ saidBytes
+unfolding packedSaid
+packed-said-fits s g room =
+    let written = writtenSaid (foundWords g) room in
+    let short : length written ≤ remarkBytes = either-fits (writingOf (foundWords g) room) [] (refusalSaid PackTrace) remarkBytes (omega arith) (refusal-said-fits PackTrace) in
+    rw (length-append (namedFrom (s .faults) (g .faults)) (unnamedSaid (g .reader .faults) ++ ifSound g written), length-append (unnamedSaid (g .reader .faults)) (ifSound g written))
+    (omega (arith, named-fits (s .faults) (g .faults), unnamed-said-fits (g .reader .faults), sound-fits (eqb (g .reader .faults) 0) written remarkBytes short))

@@ -1,4 +1,4 @@
--- What `runtrace` writes of a trace (document 01, examples), and what it says of it.
+-- What `runtrace` writes of a trace (document 01, examples), and what it says of it, which is ours (docs/DECISIONS.md, 58).
 use Prim.Native.Nat.{ℕ, _*_}
 use mathlib.Core.List.{List, []}
 use mathlib.Core.Option.{none, some}

@@ -3,7 +3,7 @@ use lines::Line;
 ghost use mathlib.Core.Path.{_≡_};
 ghost use Rattle.pages.specs.Writing.{bytesIn};
 
-// None where the slice was too short.
+// 0 where the slice was too short.
 pub(crate) fn bytes_in(line: Line) -> usize
     ensures { λ r. ⌜ r ≡ bytesIn line ⌝ }
 {

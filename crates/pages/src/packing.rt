@@ -89,6 +89,7 @@ fn byte_at(text: &[u8], i: usize) -> u8
     if i < text.len() { text[i] } else { 0 }
 }
 
+// A byte order mark: EF BB BF, or FF FE or FE FF of a text in words of 16 bits.
 fn is_mark(first: u8, second: u8, third: u8) -> bool
     ensures { λ r. ⌜ r ≡ isMark first second third ⌝ }
 {
@@ -184,7 +185,8 @@ fn write_blocks(reader: Reader, words: &[u16], out: &mut [u8], at: usize, said: 
     }
 }
 
-// Ends a text: its last line, what is said of it and of the bad lines that were not named, and the trace of its words, if none is bad.
+// Ends a text: its last line, what is said of it and of the bad lines that were not named, and the trace of its words, if none is bad. A slice
+// that is too short for the trace is told as a refusal with 3.
 pub fn end_text(
     reader: Reader,
     words: &mut [u16; PACKED_WORDS],

@@ -106,7 +106,7 @@ fn run_words(words: &[u16], out: &mut [u8], said: &mut [u8]) -> Written
     }
 }
 
-// What a program says of a trace that the reader refuses.
+// What a program says of a refusal of the reader or the writer.
 pub(crate) fn say_refused(program: Program, number: u8, index: usize, said: &mut [u8]) -> Line
     ensures { λ r. ⌜ Makes (refusalSaid program number index) r (now (said .entry)) (now (said .exit)) ⌝ }
 {

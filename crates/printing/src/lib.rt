@@ -1,5 +1,5 @@
-// The programs for traces, over any files: each reads its input, makes one call of `pages` for a trace or for each piece of a text, and
-// writes what that gives.
+// The programs for traces, over any files: each reads its input, makes one call of `pages` for a trace, or one for each piece of a text and one
+// at its end, and writes what they give.
 mod reading; // reading.rt: input, and whether it could be read
 mod writing; // writing.rt: output, and what is said where it fails
 mod programs; // programs.rt: the three programs

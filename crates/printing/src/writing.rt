@@ -7,7 +7,8 @@ use lines::Remark;
 use pages::Written;
 ghost use Rattle.io.specs.Counts.{Counts};
 
-// One write, tried again where it is interrupted, and how many bytes went out: none where it fails.
+// One write, tried again where it is interrupted, and how many bytes went out: none where it fails. (The tries end only for the proof: there is
+// no time for so many.)
 fn write_once(file: i32, bytes: &[u8]) -> usize
     ensures { λ r. ⌜ Counts r (now (bytes .entry)) ⌝ }
 {
