@@ -168,10 +168,10 @@ unfolding unpackedSaid
 unpacked-said-fits t = either-fits (readingOf t) [] (refusalSaid UnpackTrace) remarkBytes (omega arith) (refusal-said-fits UnpackTrace)
 
 -- what `packtrace` says of a piece, and at the end of a text
-one-more-up : (k : ℕ) → k < mostNamed → oneMore k ≡ k + 1
+pub one-more-up : (k : ℕ) → k < mostNamed → oneMore k ≡ k + 1
 one-more-up k l = picked (ltb k mostCounted) (k + 1) k (lt-ltb k mostCounted (omega arith))
 
-one-more-no-less : (k : ℕ) → k ≤ oneMore k
+pub one-more-no-less : (k : ℕ) → k ≤ oneMore k
 one-more-no-less k = by-test (ltb k mostCounted)
   where
     by-test : (b : Bool) → k ≤ pick b (k + 1) k

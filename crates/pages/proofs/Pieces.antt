@@ -8,20 +8,20 @@ use native.Mathlib.Omega.{arith}
 use lib.Dec.{ltb}
 use lib.ListN.{length, take, drop, length-drop, drop-of-length-le}
 use lib.Seq.{take-all, drop-drop}
-use borrow.Author.Tests.{ltb-true, lt-ltb}
+use borrow.Author.Tests.{ltb-true}
 use Rattle.choice.specs.Pick.{pick}
-use Rattle.choice.proofs.Picks.{picked}
 use Rattle.text.specs.declared.Reader.{Reader}
 use Rattle.text.specs.declared.Fault.{Fault}
 use Rattle.text.specs.declared.Stop.{Stop}
 use Rattle.text.specs.declared.Taken.{Taken}
-use Rattle.text.specs.Taking.{mostCounted, oneMore, Took, takeFrom, Takes}
+use Rattle.text.specs.Taking.{oneMore, Took, takeFrom, Takes}
 use Rattle.lines.specs.Putting.{Puts}
 use Rattle.lines.specs.Words.{faultLine}
 use Rattle.lines.proofs.Putting.{puts-both}
 use Rattle.lines.proofs.Longest.{fault-line-le}
 use Rattle.pages.specs.Packing.{Gathered, faultThen, gatherFrom, mostNamed, namedFrom}
 use Rattle.pages.specs.Naming.{faultBytes, namedBytes, Names}
+use Rattle.pages.proofs.Longest.{one-more-up, one-more-no-less}
 use Rattle.pages.proofs.Gathered.{goesOn, Says, gather-take, take-says}
 
 -- how far what is said goes, with one fault more
@@ -29,18 +29,11 @@ one-fault-more : (at end end′ k : ℕ) (f : Fault) → end ≤ at + faultBytes
     → (end′ ≤ at + faultBytes * oneMore k) × (end′ ≤ at + namedBytes)
 one-fault-more at end end′ k f h g e = by-test (ltb k mostNamed) refl e
   where
-    counted : k < mostNamed → oneMore k ≡ k + 1
-    counted l = picked (ltb k mostCounted) (k + 1) k (lt-ltb k mostCounted (omega arith))
-
-    no-less : (b : Bool) → k ≤ pick b (k + 1) k
-    no-less true = omega arith
-    no-less false = omega arith
-
     by-test : (b : Bool) → ltb k mostNamed ≡ b → end′ ≡ end + length (pick b (faultLine f) []) → (end′ ≤ at + faultBytes * oneMore k) × (end′ ≤ at + namedBytes)
     by-test true q x =
         let l : k < mostNamed = ltb-true k mostNamed q in
-        (rw (counted l) (omega (arith, fault-line-le f, x, h)), omega (arith, fault-line-le f, x, h, l))
-    by-test false q x = (omega (arith, x, h, no-less (ltb k mostCounted)), omega (arith, x, g))
+        (rw (one-more-up k l) (omega (arith, fault-line-le f, x, h)), omega (arith, fault-line-le f, x, h, l))
+    by-test false q x = (omega (arith, x, h, one-more-no-less k), omega (arith, x, g))
 
 module _ (start : Reader) (piece words₀ said₀ : List ℕ) (at : ℕ) where
   abbrev all : Gathered
