@@ -2,3 +2,4 @@ pub mod Pick
 pub mod Checks
 pub mod Tells
 pub mod Along
+pub mod Text

@@ -9,6 +9,7 @@ use lib.Dec.{T, eqb, ltb, leb}
 use lib.ListN.{length, take, drop, length-append, length-take}
 use borrow.Author.Tests.{leb-true}
 use Rattle.choice.specs.Pick.{pick}
+use Rattle.choice.specs.Text.{digit, numeral, hex, trimmed, longest, decimal, ascii}
 use Rattle.choice.proofs.Spans.{holds}
 use Rattle.text.specs.declared.Expected.{Expected}
 use Rattle.text.specs.declared.Expected.the-variants.{Digit, Blank, Word as AWord, LineEnd}
@@ -23,7 +24,6 @@ use Rattle.lines.specs.declared.Program.{Program}
 use Rattle.lines.specs.declared.Program.the-variants.{RunTrace, PackTrace, UnpackTrace}
 use Rattle.lines.specs.declared.Remark.{Remark}
 use Rattle.lines.specs.declared.Remark.the-variants.{NoInput, NoOutput, Waits, Marked, Unnamed, Refusal}
-use Rattle.lines.specs.Text.{digit, numeral, hex, trimmed, longest, decimal, ascii}
 use Rattle.lines.specs.Lines.{lineOf, cycleLine, stateLine, registerLine, refusedLine, lastLine}
 use Rattle.lines.specs.Words.{afterWord, wordsText, wordsLine, expectedText, faultLine}
 use Rattle.lines.specs.Remarks.{nameOf, Subject, whole, block, word, pins, Meaning, meanings, rowFor, meaningOf, placeText, refusalText, remarkText, remarkLine}

@@ -8,9 +8,9 @@ use native.Mathlib.Omega.{arith}
 use lib.ListN.{length, take, drop, set, length-append, length-set}
 use lib.Seq.{append-snoc, take-suc-set, drop-set-lt, drop-drop}
 use borrow.Rule.Slice.PartMut.{drop-put}
+use Rattle.choice.specs.Text.{blank}
 use Rattle.choice.proofs.Filling.{middle-take, middle-long}
 use Rattle.lines.specs.declared.Line.{Line}
-use Rattle.lines.specs.Text.{blank}
 use Rattle.lines.specs.Answers.{Makes}
 use Rattle.lines.specs.Putting.{Puts}
 use Rattle.lines.proofs.Answered.{makes-as}

@@ -7,6 +7,7 @@ use lib.Dec.{T, eqb, ltb}
 use lib.ListN.{length, set, take, drop, length-set, length-drop, take-append-drop, drop-of-length-le}
 use lib.Seq.{sets, sets-eq, length-take-le, length-sets, drop-drop}
 use borrow.Author.Tests.{eqb-true, lt-ltb}
+use Rattle.choice.specs.Text.{newline, blank, digit, hex}
 use Rattle.choice.proofs.Spans.{holds, below}
 use Rattle.choice.proofs.Picks.{picked}
 use Rattle.text.specs.declared.Place.the-variants.{Between, After}
@@ -15,7 +16,6 @@ use Rattle.text.specs.Bytes.{digitValue}
 use Rattle.text.specs.Lines.{wordsPerLine}
 use Rattle.text.specs.Taking.{startOf, oneMore, Took, stopsAt, takeFrom}
 use Rattle.text.proofs.Reading.{reader, word-read, blank-read, feed-read}
-use Rattle.lines.specs.Text.{newline, blank, digit, hex}
 use Rattle.lines.specs.Words.{wordsText, wordsLine, textFrom, textOf, AllWords}
 
 -- a digit is read as what it stands for

@@ -3,11 +3,11 @@ use mathlib.Core.Path.{_≡_, refl, ap, _∙_}
 use mathlib.Core.List.{List, [], _∷_}
 use Prim.Native.Nat.{ℕ, _+_}
 use lib.ListN.{length, replicate, length-append}
+use Rattle.choice.specs.Text.{hex, decimal}
 use Rattle.machine.specs.declared.Waiting.the-variants.{Nothing}
 use Rattle.machine.specs.declared.Registers.{Registers}
 use Rattle.run.specs.declared.Ending.the-variants.{Done, Refused}
 use Rattle.run.specs.declared.Ran.{Ran}
-use Rattle.lines.specs.Text.{hex, decimal}
 use Rattle.lines.specs.Lines.{cycleLine, stateLine, registerLine, refusedLine, lastLine}
 use Rattle.lines.specs.Pages.{reportLine, linesFrom, pageOf}
 use Rattle.lines.proofs.Paged.{length-lines}

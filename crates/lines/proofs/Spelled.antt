@@ -10,7 +10,7 @@ use lib.Seq.{append-snoc, drop-cons, getD-set-same, drop-set-lt, lt-length-set, 
 use lib.Dec.{eqb}
 use borrow.Author.Tests.{eq-eqb, ne-eqb}
 use Rattle.choice.specs.Pick.{pick}
-use Rattle.lines.specs.Text.{digit, numeral, trimmed}
+use Rattle.choice.specs.Text.{digit, numeral, trimmed}
 
 pub length-numeral : (base n x : ℕ) → length (numeral base n x) ≡ n
 length-numeral base zero x = refl

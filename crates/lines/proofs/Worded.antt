@@ -10,7 +10,7 @@ use lib.ListN.{length, take, drop, getD, length-take, drop-of-length-le}
 use lib.Seq.{drop-cons}
 use borrow.Author.Tests.{ltb-true, ltb-false}
 use Rattle.choice.specs.Pick.{pick}
-use Rattle.lines.specs.Text.{newline, blank, hex}
+use Rattle.choice.specs.Text.{newline, blank, hex}
 use Rattle.lines.specs.Putting.{Puts}
 use Rattle.lines.specs.Words.{afterWord, wordsText}
 use Rattle.lines.proofs.Putting.{later}

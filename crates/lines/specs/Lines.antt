@@ -3,13 +3,13 @@ use Prim.Native.Nat.{ℕ}
 use mathlib.Core.List.{List, [], _∷_, _++_}
 use lib.Dec.{eqb}
 use Rattle.choice.specs.Pick.{pick}
+use Rattle.choice.specs.Text.{newline, blank, dash, numeral, hex, decimal, digitOrNone}
 use Rattle.machine.specs.declared.Waiting.{Waiting}
 use Rattle.machine.specs.declared.Waiting.the-variants.{Nothing, Held}
 use Rattle.machine.specs.declared.Registers.{Registers}
 use Rattle.machine.specs.Reporting.{noCt, noT}
 use Rattle.run.specs.declared.Ending.{Ending}
 use Rattle.run.specs.declared.Ending.the-variants.{Done, Stopped, Refused}
-use Rattle.lines.specs.Text.{newline, blank, dash, numeral, hex, decimal, digitOrNone}
 
 -- a field and more, with a blank between them, and the line's end
 abbrev pub lineOf : List ℕ → List (List ℕ) → List ℕ

@@ -4,11 +4,11 @@ use Prim.Native.Nat.{ℕ}
 use mathlib.Core.List.{List, [], _∷_, _++_}
 use lib.Dec.{eqb}
 use Rattle.choice.specs.Pick.{pick}
+use Rattle.choice.specs.Text.{newline, hex, decimal, ascii}
 use Rattle.lines.specs.declared.Program.{Program}
 use Rattle.lines.specs.declared.Program.the-variants.{RunTrace, PackTrace, UnpackTrace}
 use Rattle.lines.specs.declared.Remark.{Remark}
 use Rattle.lines.specs.declared.Remark.the-variants.{NoInput, NoOutput, Waits, Marked, Unnamed, Refusal}
-use Rattle.lines.specs.Text.{newline, hex, decimal, ascii}
 
 abbrev pub nameOf : Program → List ℕ
 nameOf RunTrace = ascii "runtrace"

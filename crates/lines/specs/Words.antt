@@ -6,11 +6,11 @@ use mathlib.Core.List.{List, [], _∷_, _++_}
 use lib.Dec.{ltb}
 use lib.ListN.{length, take, drop}
 use Rattle.choice.specs.Pick.{pick}
+use Rattle.choice.specs.Text.{newline, blank, hex, decimal}
 use Rattle.text.specs.declared.Expected.{Expected}
 use Rattle.text.specs.declared.Expected.the-variants.{Digit, Blank, Word, LineEnd}
 use Rattle.text.specs.declared.Fault.{Fault}
 use Rattle.text.specs.Lines.{wordsPerLine}
-use Rattle.lines.specs.Text.{newline, blank, hex, decimal}
 
 -- what stands after a word, with these words still to come
 abbrev pub afterWord : List ℕ → ℕ

@@ -2,7 +2,7 @@
 ghost use mathlib.Core.Path.{_≡_};
 ghost use Prim.Native.Nat.{_+_, _≤_, _<_};
 ghost use lib.ListN.{length, drop};
-ghost use Rattle.lines.specs.Text.{digit, numeral, trimmed, digitOrNone};
+ghost use Rattle.choice.specs.Text.{digit, numeral, trimmed, digitOrNone};
 
 fn digit_of(d: u8) -> u8
     requires { ⌜ d < 16 ⌝ }

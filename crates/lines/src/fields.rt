@@ -5,7 +5,7 @@ ghost use mathlib.Core.Path.{_≡_};
 ghost use mathlib.Core.List.{[], _∷_, _++_};
 ghost use Prim.Native.Nat.{_+_, _≤_};
 ghost use lib.ListN.{length};
-ghost use Rattle.lines.specs.Text.{numeral, hex, decimal, digitOrNone};
+ghost use Rattle.choice.specs.Text.{numeral, hex, decimal, digitOrNone};
 ghost use Rattle.lines.specs.Answers.{Makes};
 ghost use Rattle.lines.specs.Putting.{Puts};
 

@@ -26,7 +26,7 @@ pub use words::words_line;
 ghost use mathlib.Core.List.{[], _∷_, _++_};
 ghost use Prim.Native.Nat.{_+_, _≤_};
 ghost use lib.ListN.{length};
-ghost use Rattle.lines.specs.Text.{newline, decimal};
+ghost use Rattle.choice.specs.Text.{newline, decimal};
 ghost use Rattle.lines.specs.Lines.{cycleLine, waitingText, stateLine, registerLine, refusedLine, lastLine};
 ghost use Rattle.lines.specs.Putting.{Puts};
 ghost use Rattle.lines.specs.Answers.{Makes};

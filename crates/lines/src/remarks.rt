@@ -7,7 +7,7 @@ ghost use mathlib.Core.Path.{_≡_};
 ghost use mathlib.Core.List.{[], _∷_, _++_};
 ghost use Prim.Native.Nat.{ℕ, _+_, _≤_, _<_};
 ghost use lib.ListN.{length};
-ghost use Rattle.lines.specs.Text.{hex, decimal, ascii};
+ghost use Rattle.choice.specs.Text.{hex, decimal, ascii};
 ghost use Rattle.lines.specs.Answers.{Makes};
 ghost use Rattle.lines.specs.Putting.{Puts};
 ghost use Rattle.lines.specs.Remarks.{nameOf, meaningOf, reasonText, refusalText, remarkText, remarkLine};

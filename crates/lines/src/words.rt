@@ -9,7 +9,7 @@ ghost use Prim.Native.Nat.{_+_, _*_, _≤_};
 ghost use lib.Dec.{ltb};
 ghost use lib.ListN.{length};
 ghost use Rattle.choice.specs.Pick.{pick};
-ghost use Rattle.lines.specs.Text.{newline, blank};
+ghost use Rattle.choice.specs.Text.{newline, blank};
 ghost use Rattle.lines.specs.Answers.{Makes};
 ghost use Rattle.lines.specs.Putting.{Puts};
 ghost use Rattle.lines.specs.Words.{wordsText, wordsLine, expectedText, faultLine};

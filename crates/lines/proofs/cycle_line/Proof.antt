@@ -3,7 +3,7 @@ use mathlib.Core.List.{[], _∷_}
 use native.Mathlib.Omega.{arith}
 use lib.ListN.{length-take}
 use borrow.Author.Needs.{needs}
-use Rattle.lines.specs.Text.{hex, decimal, digitOrNone}
+use Rattle.choice.specs.Text.{hex, decimal, digitOrNone}
 use Rattle.lines.specs.Lines.{cycleLine}
 use Rattle.lines.proofs.Putting.{puts-field, line-made}
 use Rattle.lines.proofs.cycle_line.Statement.{statement}

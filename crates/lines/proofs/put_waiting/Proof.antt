@@ -4,8 +4,8 @@ use mathlib.Core.Path.{sym, subst}
 use mathlib.Core.List.{[], _∷_, _++_}
 use native.Mathlib.Omega.{arith}
 use borrow.Author.Needs.{needs}
+use Rattle.choice.specs.Text.{newline}
 use Rattle.machine.specs.declared.Waiting.{Waiting}
-use Rattle.lines.specs.Text.{newline}
 use Rattle.lines.specs.Putting.{Puts}
 use Rattle.lines.specs.Lines.{waitingText}
 use Rattle.lines.proofs.put_waiting.Statement.{statement}

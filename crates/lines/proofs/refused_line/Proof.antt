@@ -3,7 +3,7 @@ use mathlib.Core.List.{[], _∷_}
 use native.Mathlib.Omega.{arith}
 use lib.ListN.{length-take}
 use borrow.Author.Needs.{needs}
-use Rattle.lines.specs.Text.{decimal}
+use Rattle.choice.specs.Text.{decimal}
 use Rattle.lines.specs.Lines.{refusedLine}
 use Rattle.lines.proofs.Putting.{puts-field, line-made}
 use Rattle.lines.proofs.refused_line.Statement.{statement}

@@ -6,8 +6,8 @@ use lib.ListN.{length-take}
 use lib.Dec.{eqb}
 use borrow.Author.Tests.{eq-eqb, ne-eqb}
 use borrow.Author.Needs.{needs}
+use Rattle.choice.specs.Text.{numeral, hex}
 use Rattle.choice.proofs.Picks.{picked, unpicked}
-use Rattle.lines.specs.Text.{numeral, hex}
 use Rattle.lines.specs.Lines.{lineOf, registerLine}
 use Rattle.lines.proofs.Answered.{made-all, makes-as}
 use Rattle.lines.proofs.Putting.{puts-both, puts-field, line-made}

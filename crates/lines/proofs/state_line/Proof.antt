@@ -3,7 +3,7 @@ use mathlib.Core.List.{[], _∷_}
 use native.Mathlib.Omega.{arith}
 use lib.ListN.{length-take}
 use borrow.Author.Needs.{needs}
-use Rattle.lines.specs.Text.{hex}
+use Rattle.choice.specs.Text.{hex}
 use Rattle.lines.specs.Lines.{stateLine}
 use Rattle.lines.proofs.Putting.{puts-field, line-made}
 use Rattle.lines.proofs.state_line.Statement.{statement}

@@ -3,8 +3,8 @@ use mathlib.Core.Path.{sym, _∙_}
 use lib.Dec.{ltb}
 use borrow.Author.Tests.{lt-ltb, le-ltb}
 use borrow.Author.Needs.{needs}
+use Rattle.choice.specs.Text.{digit, dash}
 use Rattle.choice.proofs.Picks.{picked, unpicked}
-use Rattle.lines.specs.Text.{digit, dash}
 use Rattle.lines.proofs.digits.digit_or_none.Statement.{statement}
 use Rattle.lines.proofs.digits.digit_or_none.Tie as tie
 

@@ -6,7 +6,7 @@ use native.Mathlib.Omega.{arith}
 use native.Mathlib.Nat.{mod-lt}
 use lib.Seq.{drop-length}
 use lib.ListN.{length, drop, length-set}
-use Rattle.lines.specs.Text.{numeral}
+use Rattle.choice.specs.Text.{numeral}
 use Rattle.lines.proofs.Spelled.{spell-step}
 use Rattle.lines.proofs.digits.spell.Statement.{statement}
 use Rattle.lines.proofs.digits.spell.Tie as tie

@@ -3,7 +3,7 @@ use mathlib.Core.Path.{_≡_, refl, _∙_}
 use Prim.Native.Nat.{_-_, _<_}
 use native.Mathlib.Omega.{arith}
 use lib.ListN.{length, drop}
-use Rattle.lines.specs.Text.{trimmed}
+use Rattle.choice.specs.Text.{trimmed}
 use Rattle.lines.proofs.Spelled.{zero-passed, digit-stops, last-stops}
 use Rattle.lines.proofs.digits.zeros.Statement.{statement}
 use Rattle.lines.proofs.digits.zeros.Tie as tie

@@ -6,7 +6,7 @@ use native.Mathlib.Omega.{arith}
 use lib.ListN.{length, take, drop, length-take, length-drop}
 use lib.Seq.{take-all}
 use borrow.Author.Needs.{needs}
-use Rattle.lines.specs.Text.{trimmed, decimal}
+use Rattle.choice.specs.Text.{trimmed, decimal}
 use Rattle.lines.specs.Putting.{Puts}
 use Rattle.lines.proofs.Putting.{puts-last}
 use Rattle.lines.proofs.fields.put_decimal.Statement.{statement}

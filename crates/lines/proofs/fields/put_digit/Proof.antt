@@ -2,7 +2,7 @@
 use native.Mathlib.Omega.{arith}
 use lib.ListN.{length-set}
 use borrow.Author.Needs.{needs}
-use Rattle.lines.specs.Text.{digitOrNone}
+use Rattle.choice.specs.Text.{digitOrNone}
 use Rattle.lines.proofs.Putting.{puts-two}
 use Rattle.lines.proofs.fields.put_digit.Statement.{statement}
 use Rattle.lines.proofs.fields.put_digit.Tie as tie

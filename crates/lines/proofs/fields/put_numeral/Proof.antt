@@ -4,7 +4,7 @@ use Prim.Native.Nat.{ℕ, _+_, _-_, _≤_}
 use native.Mathlib.Omega.{arith}
 use lib.ListN.{length, take, drop, length-take, length-drop}
 use borrow.Author.Needs.{needs}
-use Rattle.lines.specs.Text.{numeral}
+use Rattle.choice.specs.Text.{numeral}
 use Rattle.lines.proofs.Spelled.{length-numeral}
 use Rattle.lines.proofs.Putting.{puts-part, part-long, puts-last}
 use Rattle.lines.proofs.fields.put_numeral.Statement.{statement}

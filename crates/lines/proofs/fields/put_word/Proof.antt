@@ -1,7 +1,7 @@
 -- `lines::fields::put_word` meets its contract: four digits of base 16.
 use native.Mathlib.Omega.{arith}
 use borrow.Author.Needs.{needs}
-use Rattle.lines.specs.Text.{hex}
+use Rattle.choice.specs.Text.{hex}
 use Rattle.lines.proofs.fields.put_word.Statement.{statement}
 use Rattle.lines.proofs.fields.put_word.Tie as tie
 

@@ -2,8 +2,8 @@
 use native.Mathlib.Omega.{arith}
 use Rattle.lines.proofs.Putting.{puts-by}
 use mathlib.Core.List.{_++_}
+use Rattle.choice.specs.Text.{ascii}
 use Rattle.lines.specs.declared.Program.{Program}
-use Rattle.lines.specs.Text.{ascii}
 use Rattle.lines.specs.Remarks.{nameOf}
 use borrow.Author.Needs.{needs}
 use Rattle.lines.proofs.remarks.put_name.Statement.{statement}
