@@ -1,9 +1,9 @@
 // Runs the programs for traces over the files that its arguments name. They come in threes: a program, how its output goes ("written", or
 // "blocked" where it cannot be written), and a file. Each case has a line with the three, and then what the program writes and says, both on
 // standard output.
+use files::Files;
 use libc::STDOUT_FILENO;
 use lines::Program;
-use printing::Files;
 ghost use Prim.Native.Nat.{_<_};
 
 // The most bytes of an argument, and the most arguments: more are passed over.
@@ -33,18 +33,19 @@ fn print_title(first: usize)
     print(b"\n");
 }
 
-// The first letter of an argument.
-fn letter(argument: usize) -> u8 {
+// A letter of an argument, by its place from 0, and 0 where the argument has none there.
+fn letter(argument: usize, place: usize) -> u8 {
     let mut name = [0u8; NAME_BYTES];
     let n = os::arg(argument, &mut name);
-    if n == 0 { 0 } else { name[0] }
+    if place < n { name[place] } else { 0 }
 }
 
-fn program_of(first: u8) -> Program {
-    match first {
-        b'r' => Program::RunTrace,
-        b'p' => Program::PackTrace,
-        _ => Program::UnpackTrace,
+// Runs a program by the third letter of its name.
+fn run_program(third: u8, files: Files) {
+    match third {
+        b'n' => printing::run_trace(files),
+        b'c' => printing::pack_text(files),
+        _ => printing::unpack_trace(files),
     }
 }
 
@@ -60,7 +61,7 @@ fn run_case(first: usize)
 {
     print_title(first);
     let input = open_input(first + 2);
-    let output = if letter(first + 1) == b'b' {
+    let output = if letter(first + 1, 0) == b'b' {
         input
     } else {
         STDOUT_FILENO
@@ -70,15 +71,15 @@ fn run_case(first: usize)
         output: output,
         errors: STDOUT_FILENO,
     };
-    printing::run_program(program_of(letter(first)), files);
+    run_program(letter(first, 2), files);
     libc::close(input);
 }
 
 fn main() {
     print(b"== usage\n");
-    printing::print_usage(Program::RunTrace, STDOUT_FILENO);
-    printing::print_usage(Program::PackTrace, STDOUT_FILENO);
-    printing::print_usage(Program::UnpackTrace, STDOUT_FILENO);
+    files::print_usage(Program::RunTrace, STDOUT_FILENO);
+    files::print_usage(Program::PackTrace, STDOUT_FILENO);
+    files::print_usage(Program::UnpackTrace, STDOUT_FILENO);
     let count = os::arg_count();
     let mut first: usize = 1;
     while first < MOST_ARGUMENTS {

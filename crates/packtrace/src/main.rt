@@ -3,5 +3,8 @@
 use lines::Program;
 
 fn main() {
-    printing::start(Program::PackTrace);
+    if files::asked(Program::PackTrace) {
+        return;
+    }
+    printing::pack_text(files::standard());
 }

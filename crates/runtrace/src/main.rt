@@ -3,5 +3,8 @@
 use lines::Program;
 
 fn main() {
-    printing::start(Program::RunTrace);
+    if files::asked(Program::RunTrace) {
+        return;
+    }
+    printing::run_trace(files::standard());
 }

@@ -3,5 +3,8 @@
 use lines::Program;
 
 fn main() {
-    printing::start(Program::UnpackTrace);
+    if files::asked(Program::UnpackTrace) {
+        return;
+    }
+    printing::unpack_trace(files::standard());
 }

@@ -1,10 +1,10 @@
--- `printing::reading::fill` meets its contract: every read leaves less to be read.
+-- `files::reading::fill` meets its contract: every read leaves less to be read.
 use mathlib.Core.Path.{_≡_}
 use Prim.Native.Nat.{_-_, _≤_}
 use lib.ListN.{length}
 use borrow.Author.Needs.{needs}
-use Rattle.printing.proofs.reading.fill.Statement.{statement}
-use Rattle.printing.proofs.reading.fill.Tie as tie
+use Rattle.files.proofs.reading.fill.Statement.{statement}
+use Rattle.files.proofs.reading.fill.Tie as tie
 
 abbrev Inv-loop : tie.InvT-loop
 Inv-loop file bytes₀ done₀ bytes done = (done ≤ length bytes) × (length bytes ≡ length bytes₀)

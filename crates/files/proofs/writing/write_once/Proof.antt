@@ -1,8 +1,8 @@
--- `printing::writing::write_once` meets its contract: the tries get fewer.
+-- `files::writing::write_once` meets its contract: the tries get fewer.
 use Prim.{Unit}
 use borrow.Author.Needs.{needs}
-use Rattle.printing.proofs.writing.write_once.Statement.{statement}
-use Rattle.printing.proofs.writing.write_once.Tie as tie
+use Rattle.files.proofs.writing.write_once.Statement.{statement}
+use Rattle.files.proofs.writing.write_once.Tie as tie
 
 abbrev Inv-loop : tie.InvT-loop
 Inv-loop file bytes put₀ tries₀ put tries = Unit {0}

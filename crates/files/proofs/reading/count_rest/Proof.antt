@@ -1,12 +1,12 @@
--- `printing::reading::count_rest` meets its contract: what is kept stays short, and the turns get fewer.
+-- `files::reading::count_rest` meets its contract: what is kept stays short, and the turns get fewer.
 use Prim.Native.Nat.{_+_, _<_}
 use native.Mathlib.Omega.{arith}
 use Rattle.trace.specs.Layout.{wordsPerRecord, blockBytes}
 use Rattle.trace.specs.Limits.{tooLong}
 use Rattle.trace.proofs.Long.{kept-lt}
 use borrow.Author.Needs.{needs}
-use Rattle.printing.proofs.reading.count_rest.Statement.{statement}
-use Rattle.printing.proofs.reading.count_rest.Tie as tie
+use Rattle.files.proofs.reading.count_rest.Statement.{statement}
+use Rattle.files.proofs.reading.count_rest.Tie as tie
 
 abbrev Inv-loop : tie.InvT-loop
 Inv-loop file first kept₀ turns₀ kept turns = kept < tooLong wordsPerRecord + blockBytes

@@ -1,9 +1,9 @@
--- `printing::writing::write_all` meets its contract: every write leaves less to be written.
+-- `files::writing::write_all` meets its contract: every write leaves less to be written.
 use Prim.Native.Nat.{_-_, _≤_}
 use lib.ListN.{length}
 use borrow.Author.Needs.{needs}
-use Rattle.printing.proofs.writing.write_all.Statement.{statement}
-use Rattle.printing.proofs.writing.write_all.Tie as tie
+use Rattle.files.proofs.writing.write_all.Statement.{statement}
+use Rattle.files.proofs.writing.write_all.Tie as tie
 
 abbrev Inv-loop : tie.InvT-loop
 Inv-loop file bytes done₀ done = done ≤ length bytes

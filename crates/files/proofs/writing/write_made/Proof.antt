@@ -1,9 +1,9 @@
--- `printing::writing::write_made` meets its contract.
+-- `files::writing::write_made` meets its contract.
 use native.Mathlib.Omega.{arith}
 use lib.ListN.{length-take}
 use borrow.Author.Needs.{needs}
-use Rattle.printing.proofs.writing.write_made.Statement.{statement}
-use Rattle.printing.proofs.writing.write_made.Tie as tie
+use Rattle.files.proofs.writing.write_made.Statement.{statement}
+use Rattle.files.proofs.writing.write_made.Tie as tie
 
 enum-told : tie.Need-enum-told
 enum-told c = search needs

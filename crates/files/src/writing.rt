@@ -1,10 +1,9 @@
-// Output, and what is said where it fails.
+// Output, what is said where it fails, and the lines of usage.
 use crate::Files;
 use crate::reading::interrupted;
 use lines::Line;
 use lines::Program;
 use lines::Remark;
-use pages::Written;
 ghost use Rattle.io.specs.Counts.{Counts};
 
 // One write, tried again where it is interrupted, and how many bytes went out: none where it fails. (The tries end only for the proof: there is
@@ -35,7 +34,7 @@ fn write_all(file: i32, bytes: &[u8]) -> bool {
 }
 
 // Writes text that was made, and answers whether it went out. Text that has no room is not written.
-pub(crate) fn write_made(file: i32, made: Line, text: &[u8]) -> bool {
+pub fn write_made(file: i32, made: Line, text: &[u8]) -> bool {
     match made {
         Line::NoRoom => false,
         Line::Made(n) => {
@@ -47,22 +46,22 @@ pub(crate) fn write_made(file: i32, made: Line, text: &[u8]) -> bool {
     }
 }
 
-pub(crate) fn say(program: Program, remark: Remark, file: i32) {
+// Says one thing, a line.
+pub fn say(program: Program, remark: Remark, file: i32) {
     let mut text = [0u8; lines::REMARK_BYTES];
     let made = lines::remark_line(program, remark, &mut text);
     write_made(file, made, &text);
 }
 
-// Writes what a call of `pages` gives. Where the output cannot be written, that is said.
-pub(crate) fn write_both(
+// Writes two texts that were made, the output and what there is to say. Where the output cannot be written, that is said before.
+pub fn write_both(
     program: Program,
     files: Files,
-    written: Written,
+    output: Line,
+    told: Line,
     text: &[u8],
     said: &[u8],
 ) {
-    let output = written.output;
-    let told = written.said;
     if !write_made(files.output, output, text) {
         say(program, Remark::NoOutput, files.errors);
     }

@@ -6,7 +6,7 @@ ghost use Rattle.trace.specs.Layout.{wordsPerRecord, blockBytes};
 ghost use Rattle.trace.specs.Limits.{tooLong};
 
 // What is read at once of an input whose length has no limit.
-pub(crate) const CHUNK: usize = 4096;
+pub const CHUNK: usize = 4096;
 
 // Whether a call that answered so was interrupted before it did anything.
 pub(crate) fn interrupted(answer: isize) -> bool {
@@ -34,7 +34,7 @@ fn read_once(file: i32, bytes: &mut [u8]) -> Input
 }
 
 // Reads until the slice is full or the input ends.
-pub(crate) fn fill(file: i32, bytes: &mut [u8]) -> Input
+pub fn fill(file: i32, bytes: &mut [u8]) -> Input
     ensures { λ r. ⌜ r .bytes ≤ length (now (bytes .entry)) ⌝ }
 {
     let mut done: usize = 0;
@@ -82,7 +82,7 @@ fn count_rest(file: i32, first: usize) -> Input
 
 // Reads a trace, and answers how much of it stands in the slice, which has trace::INPUT_BYTES: all of a trace that may be accepted, and of a
 // longer one so much that it is answered alike.
-pub(crate) fn read_trace(file: i32, bytes: &mut [u8]) -> Input
+pub fn read_trace(file: i32, bytes: &mut [u8]) -> Input
     ensures { λ r. ⌜ r .bytes ≤ length (now (bytes .entry)) ⌝ }
 {
     let input = fill(file, bytes);

@@ -1,9 +1,9 @@
--- `printing::reading::read_once` meets its contract: the tries get fewer.
+-- `files::reading::read_once` meets its contract: the tries get fewer.
 use mathlib.Core.Path.{_≡_}
 use lib.ListN.{length}
 use borrow.Author.Needs.{needs}
-use Rattle.printing.proofs.reading.read_once.Statement.{statement}
-use Rattle.printing.proofs.reading.read_once.Tie as tie
+use Rattle.files.proofs.reading.read_once.Statement.{statement}
+use Rattle.files.proofs.reading.read_once.Tie as tie
 
 abbrev Inv-loop : tie.InvT-loop
 Inv-loop file bytes₀ got₀ tries₀ bytes got tries = length bytes ≡ length bytes₀
