@@ -10,7 +10,7 @@ ghost use mathlib.Core.Path.{_≡_};
 ghost use Prim.Native.Nat.{_<_};
 ghost use Rattle.choice.specs.Checks.{refusal};
 ghost use Rattle.isa.specs.Fields.{markOf, fieldA, fieldB};
-ghost use Rattle.isa.specs.Table.{rowAt, noRow};
+ghost use Rattle.isa.specs.Table.{rowAt, noRow, numberOf};
 ghost use Rattle.isa.specs.Words.{ruleChecks, decodeOf, lookupOf, decodedTells, encodeOf, encodedTells, takesImmediate};
 ghost use Rattle.isa.specs.Decision.{RowIs, SameRow, takesWord, namedAs, Narrow, fillOf};
 
@@ -234,4 +234,31 @@ pub fn takes_immediate(word: u16) -> bool
         }
     }
     false
+}
+
+// The number of a family's row.
+pub fn number_of(family: Family) -> u8
+    ensures { λ r. ⌜ r ≡ numberOf family ⌝ }
+{
+    table::number_of(family)
+}
+
+// The row of a number; past the last one a row that takes nothing.
+pub fn numbered_row(number: u8) -> Row
+    ensures { λ r. ⌜ r ≡ rowAt number ⌝ }
+{
+    if number < number::NONE {
+        table::row_at(number as usize)
+    } else {
+        Row {
+            family: Family::Tor1,
+            quadrant: 0,
+            modes: 0,
+            a: 0,
+            b: 0,
+            c: 0,
+            rule: 0,
+            immediate: 0,
+        }
+    }
 }

@@ -1,0 +1,9 @@
+pub mod Names
+pub mod Places
+pub mod Items
+pub mod Lines
+pub mod Data
+pub mod Answers
+pub mod Keys
+pub mod Entries
+pub mod Reading
