@@ -83,6 +83,14 @@ pub fn print_usage(program: Program, file: i32) {
             file,
             b"usage: ./run unpacktrace < TRACE\nPrints the words of a trace as hex text, a cycle to a line.\nThe trace is read on standard input. There are no arguments.\n",
         ),
+        Program::ListTrace => write_all(
+            file,
+            b"usage: ./run listtrace < TRACE\nPrints the instructions of a trace by their names, a cycle to a line.\nThe trace is read on standard input. There are no arguments.\n",
+        ),
+        Program::ReadList => write_all(
+            file,
+            b"usage: ./run readlist < TEXT\nPrints the word of each line of a listing in hex, or why the line cannot be read.\nThe text is read on standard input. There are no arguments.\n",
+        ),
     }
     ;
 }

@@ -21,10 +21,10 @@ use Rattle.machine.specs.declared.Registers.{Registers}
 use Rattle.run.specs.declared.Ending.{Ending}
 use Rattle.run.specs.declared.Ending.the-variants.{Done, Stopped, Refused}
 use Rattle.lines.specs.declared.Program.{Program}
-use Rattle.lines.specs.declared.Program.the-variants.{RunTrace, PackTrace, UnpackTrace}
+use Rattle.lines.specs.declared.Program.the-variants.{RunTrace, PackTrace, UnpackTrace, ListTrace, ReadList}
 use Rattle.lines.specs.declared.Remark.{Remark}
-use Rattle.lines.specs.declared.Remark.the-variants.{NoInput, NoOutput, Waits, Marked, Unnamed, Refusal}
-use Rattle.lines.specs.Lines.{lineOf, cycleLine, stateLine, registerLine, refusedLine, lastLine}
+use Rattle.lines.specs.declared.Remark.the-variants.{NoInput, NoOutput, Waits, Marked, Unnamed, Refusal, Unread, LongLine}
+use Rattle.lines.specs.Lines.{lineOf, cycleLine, stateLine, registerLine, wordRefusedLine, refusedLine, lastLine}
 use Rattle.lines.specs.Words.{afterWord, wordsText, wordsLine, expectedText, faultLine}
 use Rattle.lines.specs.Remarks.{nameOf, Subject, whole, block, word, pins, Meaning, meanings, rowFor, meaningOf, placeText, refusalText, remarkText, remarkLine}
 use Rattle.lines.proofs.Spelled.{length-trimmed}
@@ -63,6 +63,10 @@ register-line-le number value = by-test (eqb value 0)
     by-test : (b : Bool) → length (pick b [] (lineOf (114 ∷ numeral 10 2 number) (hex 4 value ∷ []))) ≤ 9
     by-test true = omega arith
     by-test false = omega arith
+
+pub word-refused-line-le : (number : ℕ) → length (wordRefusedLine number) ≤ 29
+unfolding wordRefusedLine
+word-refused-line-le number = rw (length-append (decimal number)) (omega (arith, decimal-le number))
 
 pub refused-line-le : (number index : ℕ) → length (refusedLine number index) ≤ 53
 unfolding refusedLine
@@ -107,6 +111,8 @@ name-le : (p : Program) → length (nameOf p) ≤ 11
 name-le RunTrace = omega arith
 name-le PackTrace = omega arith
 name-le UnpackTrace = omega arith
+name-le ListTrace = omega arith
+name-le ReadList = omega arith
 
 -- a reason of the table, whatever the number
 why-by : (b : Bool) (m : Meaning) (rest : Meaning) → length (m .why) ≤ 47 → length (rest .why) ≤ 47 → length (pick b m rest .why) ≤ 47
@@ -146,6 +152,8 @@ remark-le (Waits w) = omega arith
 remark-le Marked = omega arith
 remark-le (Unnamed n) = rw (length-append (decimal n)) (omega (arith, decimal-le n))
 remark-le (Refusal k i w p) = refusal-le k i w p
+remark-le (Unread n) = rw (length-append (decimal n)) (omega (arith, decimal-le n))
+remark-le LongLine = omega arith
 
 pub remark-line-le : (p : Program) (r : Remark) → length (remarkLine p r) ≤ 135
 unfolding remarkLine

@@ -3,7 +3,7 @@ use Prim.Native.Nat.{ℕ}
 use mathlib.Core.List.{List, [], _∷_, _++_}
 use lib.Dec.{eqb}
 use Rattle.choice.specs.Pick.{pick}
-use Rattle.choice.specs.Text.{newline, blank, dash, numeral, hex, decimal, digitOrNone}
+use Rattle.choice.specs.Text.{newline, blank, dash, numeral, hex, decimal, digitOrNone, ascii}
 use Rattle.machine.specs.declared.Waiting.{Waiting}
 use Rattle.machine.specs.declared.Waiting.the-variants.{Nothing, Held}
 use Rattle.machine.specs.declared.Registers.{Registers}
@@ -38,6 +38,10 @@ stateLine r =
 -- "r" with two digits, and the value; no text at all for a register that is 0
 unfoldable pub registerLine : ℕ → ℕ → List ℕ
 registerLine number value = pick (eqb value 0) [] (lineOf (114 ∷ numeral 10 2 number) (hex 4 value ∷ []))
+
+-- "refused" with the number, of a word in a listing (document 02, request 1)
+unfoldable pub wordRefusedLine : ℕ → List ℕ
+wordRefusedLine number = lineOf (ascii "refused") (decimal number ∷ [])
 
 -- "refused" with the number, "at", and the index
 unfoldable pub refusedLine : ℕ → ℕ → List ℕ

@@ -6,14 +6,16 @@ use lib.Dec.{eqb}
 use Rattle.choice.specs.Pick.{pick}
 use Rattle.choice.specs.Text.{newline, hex, decimal, ascii}
 use Rattle.lines.specs.declared.Program.{Program}
-use Rattle.lines.specs.declared.Program.the-variants.{RunTrace, PackTrace, UnpackTrace}
+use Rattle.lines.specs.declared.Program.the-variants.{RunTrace, PackTrace, UnpackTrace, ListTrace, ReadList}
 use Rattle.lines.specs.declared.Remark.{Remark}
-use Rattle.lines.specs.declared.Remark.the-variants.{NoInput, NoOutput, Waits, Marked, Unnamed, Refusal}
+use Rattle.lines.specs.declared.Remark.the-variants.{NoInput, NoOutput, Waits, Marked, Unnamed, Refusal, Unread, LongLine}
 
 abbrev pub nameOf : Program → List ℕ
 nameOf RunTrace = ascii "runtrace"
 nameOf PackTrace = ascii "packtrace"
 nameOf UnpackTrace = ascii "unpacktrace"
+nameOf ListTrace = ascii "listtrace"
+nameOf ReadList = ascii "readlist"
 
 -- what a refusal finds at fault: all of the input, a block, a cycle's instruction word, or its pins
 pub data Subject : Type 0 where
@@ -81,6 +83,8 @@ remarkText (Waits w) = ascii "note: the run ends waiting for the operand of " ++
 remarkText Marked = ascii "the text begins with a byte order mark" ++ newline ∷ []
 remarkText (Unnamed count) = ascii "more lines that cannot be read: " ++ (decimal count ++ newline ∷ [])
 remarkText (Refusal k index w p) = refusalText k index w p
+remarkText (Unread count) = ascii "lines that cannot be read: " ++ (decimal count ++ newline ∷ [])
+remarkText LongLine = ascii "a line is longer than 4,095 bytes" ++ newline ∷ []
 
 -- the program's name, ": " and what it says
 unfoldable pub remarkLine : Program → Remark → List ℕ

@@ -27,7 +27,7 @@ ghost use mathlib.Core.List.{[], _∷_, _++_};
 ghost use Prim.Native.Nat.{_+_, _≤_};
 ghost use lib.ListN.{length};
 ghost use Rattle.choice.specs.Text.{newline, decimal};
-ghost use Rattle.lines.specs.Lines.{cycleLine, waitingText, stateLine, registerLine, refusedLine, lastLine};
+ghost use Rattle.lines.specs.Lines.{cycleLine, waitingText, stateLine, registerLine, wordRefusedLine, refusedLine, lastLine};
 ghost use Rattle.lines.specs.Putting.{Puts};
 ghost use Rattle.lines.specs.Answers.{Makes};
 
@@ -42,10 +42,13 @@ pub enum Program {
     RunTrace,
     PackTrace,
     UnpackTrace,
+    ListTrace,
+    ReadList,
 }
 
 // What there is to say: input or output failed, a run ends with this word waiting, a text begins with a byte order mark, this many of its
-// bad lines are not named, or a refusal: its number, the index of its block or cycle, and that cycle's instruction word and pins.
+// bad lines are not named, a refusal: its number, the index of its block or cycle, and that cycle's instruction word and pins; this many lines of
+// a listing cannot be read, or one is too long.
 pub enum Remark {
     NoInput,
     NoOutput,
@@ -53,6 +56,8 @@ pub enum Remark {
     Marked,
     Unnamed(u64),
     Refusal(u8, usize, u16, u16),
+    Unread(u64),
+    LongLine,
 }
 
 // Room for the longest line of a run.
@@ -113,14 +118,14 @@ pub fn register_line(number: u64, value: u16, out: &mut [u8]) -> Line
     fields::hand_over(&line[..at], out)
 }
 
-// The count of a run that was not refused.
-fn counted_line(text: &[u8], accepted: u64, out: &mut [u8]) -> Line
+// A text and a number.
+fn counted_line(text: &[u8], number: u64, out: &mut [u8]) -> Line
     requires { ⌜ length (now text) ≤ 8 ⌝ }
-    ensures { λ r. ⌜ Makes (now (text .entry) ++ (decimal accepted ++ newline ∷ [])) r (now (out .entry)) (now (out .exit)) ⌝ }
+    ensures { λ r. ⌜ Makes (now (text .entry) ++ (decimal number ++ newline ∷ [])) r (now (out .entry)) (now (out .exit)) ⌝ }
 {
     let mut line = [0u8; LONGEST];
     let mut at = fields::put_text(text, 0, &mut line);
-    at = fields::put_decimal(accepted, b'\n', at, &mut line);
+    at = fields::put_decimal(number, b'\n', at, &mut line);
     fields::hand_over(&line[..at], out)
 }
 
@@ -133,6 +138,13 @@ fn refused_line(number: u64, index: u64, out: &mut [u8]) -> Line
     at = fields::put_text(b"at ", at, &mut line);
     at = fields::put_decimal(index, b'\n', at, &mut line);
     fields::hand_over(&line[..at], out)
+}
+
+// A word of a listing that is refused.
+pub fn word_refused_line(number: u8, out: &mut [u8]) -> Line
+    ensures { λ r. ⌜ Makes (wordRefusedLine number) r (now (out .entry)) (now (out .exit)) ⌝ }
+{
+    counted_line(b"refused ", number as u64, out)
 }
 
 // The last line, by how the run ended.

@@ -23,6 +23,8 @@ fn put_name(program: Program, at: usize, line: &mut [u8]) -> usize
         Program::RunTrace => fields::put_text(b"runtrace: ", at, line),
         Program::PackTrace => fields::put_text(b"packtrace: ", at, line),
         Program::UnpackTrace => fields::put_text(b"unpacktrace: ", at, line),
+        Program::ListTrace => fields::put_text(b"listtrace: ", at, line),
+        Program::ReadList => fields::put_text(b"readlist: ", at, line),
     }
 }
 
@@ -222,6 +224,8 @@ fn put_remark(remark: Remark, at: usize, line: &mut [u8]) -> usize
             at,
             line,
         ),
+        Remark::Unread(count) => put_number(b"lines that cannot be read: ", count, b'\n', at, line),
+        Remark::LongLine => fields::put_text(b"a line is longer than 4,095 bytes\n", at, line),
     }
 }
 

@@ -5,6 +5,7 @@ pub mod Walks
 pub mod Finds
 pub mod Steps
 pub mod Laws
+pub mod Exactly
 pub mod Ways
 pub mod Prints
 pub mod Hex

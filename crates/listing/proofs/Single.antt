@@ -5,20 +5,24 @@ use mathlib.Core.List.{List, [], _∷_, _++_, append-nil}
 use mathlib.Core.Logic.{_⊎_, inl, inr}
 use Prim.Native.Nat.{ℕ, zero, suc, _+_, _<_, _≤_, max}
 use native.Mathlib.Omega.{arith}
-use lib.Dec.{T, eqb, leb, leb→le}
-use borrow.Author.Tests.{eqb-true, eqb-false}
+use lib.Dec.{T, eqb, ltb, leb, ltb→lt, leb→le}
+use borrow.Author.Tests.{eqb-true, eqb-false, leb-false}
 use lib.ListN.{length, length-append}
 use Rattle.choice.specs.Pick.{pick}
 use Rattle.choice.specs.Tells.{Tells, accepted, refused, Placed, acceptedWhole, refusedAt}
 use Rattle.choice.proofs.Spans.{span, below}
-use Rattle.choice.proofs.Tells.{accepted-one, refused-one, accepted-refused, whole-one, refused-at-one, whole-refused}
+use Rattle.choice.specs.Checks.{refusal}
+use Rattle.choice.proofs.Checks.{cleared}
+use Rattle.choice.proofs.Tells.{told-accepted, accepted-one, refused-one, accepted-refused, whole-one, refused-at-one, whole-refused}
 use Rattle.isa.specs.declared.Family.{Family}
 use Rattle.isa.specs.declared.Named.{Named}
-use Rattle.isa.specs.Fields.{markFor}
+use Rattle.isa.specs.Fields.{markFor, markOf, quadrantOf, fieldA, fieldB, fieldC}
 use Rattle.isa.specs.Table.{rowAt, noRow, numberOf}
-use Rattle.isa.specs.Words.{decodeOf, encodeOf, namedBy}
+use Rattle.isa.specs.Words.{decodeOf, encodeOf, namedBy, wordNumber, wordRow, wordChecks, ruleChecks}
 use Rattle.isa.proofs.Families.{own-row, narrow, mark-small}
-use Rattle.isa.proofs.Takes.{small}
+use Rattle.isa.proofs.Takes.{taken, small}
+use Rattle.isa.proofs.Values.{within}
+use Rattle.isa.proofs.Found.{row-belongs}
 use Rattle.isa.proofs.Laws.{encode-decode, encode-takes, Answered, word-answered}
 use Rattle.listing.specs.declared.Printed.{Printed}
 use Rattle.listing.specs.declared.Read.{Read}
@@ -128,10 +132,28 @@ named-short n w e =
     subst (λ (g : Family). length (joined (textsBy i (markFor (n .mode)) (formOf g) (n .a) (n .b) (n .c))) ≤ longestLine) (o .1)
     (texts-short i (markFor (n .mode)) (n .a) (n .b) (n .c) (o .0) (mark-small (n .mode)) (half (n .a) (s .0)) (half (n .b) (s .1)) (s .2))
 
+-- a number past 16 bits is no accepted word
+abbrev two-modes : ℕ → Bool
+two-modes i = ltb (rowAt i .modes) 4
+
+all-two-modes : T (span 0 noRow two-modes)
+all-two-modes = tt
+
+accepted-small : (w : ℕ) (n : Named) → decodeOf w ≡ accepted n → w < 0x10000
+unfolding decodeOf
+accepted-small w n e =
+    let i : ℕ = wordNumber w in
+    let t = told-accepted (refusal (wordChecks w)) (namedBy w) n e in
+    let f = cleared 7 (leb noRow i) (ruleChecks (wordRow w) (markOf w) (fieldA w) (fieldB w)) (λ z. omega arith) (t .0) in
+    let b = row-belongs (markOf w) (quadrantOf w) (fieldA w) (fieldB w) (fieldC w) (leb-false noRow i (f .0)) in
+    let k = taken (rowAt i) (markOf w) (fieldA w) (fieldB w) (fieldC w) (b .fields) in
+    let m : markOf w < 2 = within 2 (rowAt i .modes) (markOf w) (ltb→lt (rowAt i .modes) 4 (below two-modes noRow i all-two-modes (b .listed))) (k .mode) in
+    omega arith
+
 -- no line is longer
-pub line-short : (w : ℕ) → w < 0x10000 → (line : List ℕ) → lineOf w ≡ accepted line → length line ≤ longestLine
+pub line-short : (w : ℕ) (line : List ℕ) → lineOf w ≡ accepted line → length line ≤ longestLine
 unfolding lineOf
-line-short w h line e = by-answer (word-answered w)
+line-short w line e = by-answer (word-answered w)
   where
     no : (k : ℕ) → decodeOf w ≡ refused k → ⊥
     no k q = accepted-refused line k (sym e ∙ ap lineBy q)
@@ -139,7 +161,7 @@ line-short w h line e = by-answer (word-answered w)
     by-answer : Answered (decodeOf w) (namedBy w) → length line ≤ longestLine
     by-answer (inl q) =
         subst (λ (l : List ℕ). length l ≤ longestLine) (accepted-one (joined (textsOf (namedBy w))) line (sym (ap lineBy q) ∙ e))
-        (named-short (namedBy w) w (encode-decode w h (namedBy w) q))
+        (named-short (namedBy w) w (encode-decode w (accepted-small w (namedBy w) q) (namedBy w) q))
     by-answer (inr (inl q)) = absurd (no 7 q)
     by-answer (inr (inr (inl q))) = absurd (no 8 q)
     by-answer (inr (inr (inr q))) = absurd (no 9 q)

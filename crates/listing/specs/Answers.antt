@@ -1,4 +1,4 @@
--- What the calls answer: how many bytes were filled, or a refusal; the word of a line, or a refusal with its column.
+-- What the calls answer: how many bytes were filled, or a refusal; the word or the data of a line, or a refusal with its column.
 use Prim.Native.Nat.{ℕ}
 use mathlib.Core.List.{List, _++_}
 use mathlib.Core.Option.{none, some}
@@ -27,7 +27,7 @@ pub record Outcome : Type 0 where
 abbrev pub outcome : Tells ℕ → List ℕ → Outcome
 outcome t s = record { told = t; bytes = s }
 
--- a line at the front of the bytes; 3 where they have less room, and they are left alone
+-- a line at the front of the bytes; 3 where there are fewer bytes than the line has, and they are left alone
 abbrev pub fill : List ℕ → List ℕ → Outcome
 fill line before =
     pick (ltb (length before) (length line)) (outcome (refused 3) before)

@@ -14,7 +14,7 @@ use Rattle.listing.specs.Lines.{valueThen, ended, pastOf}
 abbrev pub dataLine : ℕ → List ℕ
 dataLine d = hex 4 d
 
--- no digit is 16
+-- 16 stands for "no digit"
 abbrev pub noDigit : ℕ
 noDigit = 16
 
@@ -40,7 +40,7 @@ dataIn (a ∷ b ∷ c ∷ []) = none
 dataIn (a ∷ b ∷ c ∷ d ∷ []) = withDigit (withDigit (withDigit (withDigit (some 0) (digitOf a)) (digitOf b)) (digitOf c)) (digitOf d)
 dataIn (a ∷ b ∷ c ∷ d ∷ e ∷ t) = none
 
--- 21 where the item is missing or not four digits, then 22 where one is left over
+-- 21 where the item is missing or not four capital hex digits, then 22 where one is left over
 abbrev pub dataFrom : ℕ → List Item → Placed ℕ
 dataFrom past [] = refusedAt 21 past
 dataFrom past (x ∷ xs) = valueThen 21 (x .column) xs (dataIn (x .text)) (λ d xs. ended xs (acceptedWhole d))

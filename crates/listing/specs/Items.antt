@@ -15,7 +15,7 @@ abbrev pub afterBlanks : List (List ℕ) → List ℕ
 afterBlanks [] = []
 afterBlanks (t ∷ ts) = blank ∷ (t ++ afterBlanks ts)
 
--- texts with one blank between two
+-- texts, with one blank between each and the next
 abbrev pub joined : List (List ℕ) → List ℕ
 joined [] = []
 joined (t ∷ ts) = t ++ afterBlanks ts
@@ -33,7 +33,7 @@ abbrev pub upToBlank : List ℕ → List ℕ
 upToBlank [] = []
 upToBlank (b ∷ bs) = pick (isBlank b) [] (b ∷ upToBlank bs)
 
--- the items of bytes from a column on; whether a byte that is no blank begins one
+-- the items of the bytes from column k on; `begins` says that no item goes on here, so that a byte which is no blank begins one
 abbrev pub itemsFrom : Bool → ℕ → List ℕ → List Item
 itemsFrom begins k [] = []
 itemsFrom begins k (b ∷ bs) =
@@ -53,7 +53,7 @@ abbrev pub squeezed : List ℕ → List ℕ
 squeezed [] = []
 squeezed (b ∷ bs) = pick (isBlank b) (oneBlank (squeezed bs)) (b ∷ squeezed bs)
 
--- nor at the beginning
+-- without the blank at the beginning, of which squeezed bytes have one at most
 abbrev pub trimmed : List ℕ → List ℕ
 trimmed [] = []
 trimmed (b ∷ bs) = pick (isBlank b) bs (b ∷ bs)

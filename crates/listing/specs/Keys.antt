@@ -33,7 +33,7 @@ keyBytes = 8
 unfoldable pub textOfKey : ℕ → List ℕ
 textOfKey k = bytesOf keyBytes k
 
--- the key of any bytes: that of a zero byte or of more than eight bytes is no name's
+-- the key of any bytes; bytes with a zero among them, or more than eight, have this one, which is no name's
 abbrev pub noKey : ℕ
 noKey = 0xFFFFFFFFFFFFFFFF
 

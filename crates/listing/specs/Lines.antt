@@ -22,7 +22,7 @@ textOf p v = textIn (p .names) v
 abbrev pub fieldTexts : Place → ℕ → List (List ℕ)
 fieldTexts p v = pick (written p) (textOf p v ∷ []) []
 
--- the items of a line: the family, by the number of its row, the mode, by its mark, and fields A, B and C
+-- the texts of a line: of the family, by the number of its row, of the mode, by its mark, and of those fields A, B and C that are written
 abbrev pub textsBy : ℕ → ℕ → Form → ℕ → ℕ → ℕ → List (List ℕ)
 textsBy i mark f a b c = textOf atFamily i ∷ textOf atMode mark ∷ (fieldTexts (f .a) a ++ (fieldTexts (f .b) b ++ fieldTexts (f .c) c))
 
@@ -36,11 +36,12 @@ lineBy t = elim (t .value) [ some n ↦ accepted (joined (textsOf n)) | none ↦
 unfoldable pub lineOf : ℕ → Tells (List ℕ)
 lineOf w = lineBy (decodeOf w)
 
--- the item at a place, and what is done with its value: a refusal at the item's column, or one past the line if it is missing
+-- what is done with the value of an item; a refusal at its column where it has none
 abbrev pub valueThen : ℕ → ℕ → List Item → Option ℕ → (ℕ → List Item → Placed ℕ) → Placed ℕ
 valueThen k column xs none next = refusedAt k column
 valueThen k column xs (some v) next = next v xs
 
+-- the first item, read at a place: refused one past the line if it is missing
 abbrev pub expect : ℕ → Place → List Item → (ℕ → List Item → Placed ℕ) → Placed ℕ
 expect past p [] next = refusedAt (p .refusal) past
 expect past p (x ∷ xs) next = valueThen (p .refusal) (x .column) xs (valueIn (p .names) (x .text)) next
@@ -84,10 +85,10 @@ wordFrom past xs =
     expect past atMode xs (λ mark xs.
     fieldsOf past (rowAt i) mark xs))
 
--- one past the line
+-- the column one past the line: its length plus 1
 abbrev pub pastOf : List ℕ → ℕ
 pastOf line = suc (length line)
 
--- the word of a line, or the first refusal from the left with its column
+-- the word of a line, or the first refusal from the left with its column, and only then 7, 8 or 9 with column 0
 unfoldable pub wordOf : List ℕ → Placed ℕ
 wordOf line = wordFrom (pastOf line) (itemsOf line)

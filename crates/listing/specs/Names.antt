@@ -1,5 +1,6 @@
--- The names of document 001's instruction tables, by printed list: the value of the field, as printed, and its name, oddities included
--- (document 02, request 1). docs/NAMES.md says what each stands for.
+-- The names of the listing, list by list: the families as document 001's summary spells them, the values of fields as its instruction tables do,
+-- oddities included (document 02, request 1). Where a table is torn (SHDR, SHD; AND and NAND of TONR) the value is document 01's.
+-- docs/NAMES.md says what each stands for.
 use Prim.Native.Nat.{ℕ}
 use Prim.Native.String.{String}
 use mathlib.Core.List.{List, [], _∷_}

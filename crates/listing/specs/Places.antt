@@ -10,7 +10,7 @@ use Rattle.isa.specs.declared.Family.{Family}
 use Rattle.isa.specs.declared.Family.the-variants.{Tor1, Rotr1, Rotr2, Rotc, Rotm, Sor, Bor2, Tor2, Shftr, Crcf, Crcr, Prt1, Prt2, Prt3, Svstr, Sonr, Tonr, Shftnr, Bor1, Bonr, Rotnr, Prtnr, Svstnr, Setst, Rstst, Test, Noop}
 use Rattle.listing.specs.Names.{Name, families, modes, oneOperand, sourcesRam, sourcesNoRam, destinations, yOrAcc, pairs, pairsToRam, pairsNoRam, operations, shiftedRam, shiftedNoRam, shifts, bitTests, bitLoads, bitActs, turnsFromRam, turnsToRam, turnsNoRam, merges, compares, firstTo, firstFrom, masks, secondTo, thirdFrom, fourthFrom, sets, resets, tests}
 
--- what may stand at a place, and the refusal where it is missing or something else
+-- the texts that may stand at a place, with their values, and the refusal where the item is missing or is none of them
 pub record Place : Type 0 where
   pub refusal : ℕ
   pub names : List Name
@@ -31,7 +31,7 @@ abbrev pub numerals : ℕ → ℕ → List Name
 numerals k zero = []
 numerals k (suc n) = record { value = k; text = numeralOf k } ∷ numerals (suc k) n
 
--- 21: a number missing, outside its field or with a leading zero
+-- 21: a number missing, outside its field or with a leading zero, or an item that is no number
 abbrev pub numbered : ℕ → Place
 numbered n = place 21 (numerals 0 n)
 
@@ -49,7 +49,7 @@ atFamily = named families
 abbrev pub atMode : Place
 atMode = named modes
 
--- the place of a bit or the places of a rotate, and a register
+-- n, the number of a bit or how far a rotate goes (field A), and a register (field C)
 abbrev pub n : Place
 n = numbered 16
 
@@ -65,6 +65,7 @@ pub record Form : Type 0 where
 abbrev pub form : Place → Place → Place → Form
 form a b c = record { a = a; b = b; c = c }
 
+-- how a family writes its fields
 abbrev pub formOf : Family → Form
 formOf Tor1 = form (named pairs) (named operations) register
 formOf Rotr1 = form n (named turnsFromRam) register
@@ -106,7 +107,7 @@ abbrev pub textIn : List Name → ℕ → List ℕ
 textIn [] v = []
 textIn (x ∷ xs) v = elim (eqb (x .value) v) [ true ↦ x .text | false ↦ textIn xs v ]
 
--- the value of a text
+-- the value of a text, none where the list does not have it
 abbrev pub valueIn : List Name → List ℕ → Option ℕ
 valueIn [] t = none
 valueIn (x ∷ xs) t = elim (sameText (x .text) t) [ true ↦ some (x .value) | false ↦ valueIn xs t ]

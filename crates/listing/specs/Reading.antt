@@ -10,7 +10,7 @@ use Rattle.listing.specs.declared.Step.{Step}
 use Rattle.listing.specs.Items.{isBlank, Item, itemsFrom, upToBlank}
 use Rattle.listing.specs.Keys.{keyFrom, noKey}
 
--- the items from an index on that no item spans
+-- the items from an index on that is not inside an item
 abbrev pub itemsAt : List ℕ → ℕ → List Item
 itemsAt line at = itemsFrom true (suc at) (drop at line)
 

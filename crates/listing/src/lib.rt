@@ -35,7 +35,7 @@ pub enum Printed {
     Refused(u8),
 }
 
-// The word of a line, or the number of the refusal and its column.
+// The word or the data of a line, or the number of the refusal and its column.
 pub enum Read {
     Word(u16),
     Refused(u8, usize),

@@ -48,6 +48,30 @@ slice-aggregate-put-text-3 c = search needs
 put-text-requires-3 : tie.Need-put-text-requires-3
 put-text-requires-3 c κs = search needs
 
+-- src/remarks.rt:26:48
+enum-told-4 : tie.Need-enum-told-4
+enum-told-4 c = search needs
+
+-- src/remarks.rt:26:48
+slice-aggregate-put-text-4 : tie.Need-slice-aggregate-put-text-4
+slice-aggregate-put-text-4 c = search needs
+
+-- src/remarks.rt:26:31
+put-text-requires-4 : tie.Need-put-text-requires-4
+put-text-requires-4 c κs = search needs
+
+-- src/remarks.rt:27:48
+enum-told-5 : tie.Need-enum-told-5
+enum-told-5 c = search needs
+
+-- src/remarks.rt:27:48
+slice-aggregate-put-text-5 : tie.Need-slice-aggregate-put-text-5
+slice-aggregate-put-text-5 c = search needs
+
+-- src/remarks.rt:27:31
+put-text-requires-5 : tie.Need-put-text-requires-5
+put-text-requires-5 c κs = search needs
+
 -- src/remarks.rt:18:1
 same-length : tie.Need-same-length
 same-length c = search needs
@@ -72,6 +96,22 @@ same-length-3 c = search needs
 returns-3 : tie.Need-returns-3
 returns-3 c = (puts-by (λ (x : Program). nameOf x ++ ascii ": ") (c .before .before .before .before .before .enum-told3 .given .1) (c .before .before .put-text3 .ensures), omega (arith, c .before .before .put-text3 .ensures .end))
 
+-- src/remarks.rt:18:1
+same-length-4 : tie.Need-same-length-4
+same-length-4 c = search needs
+
+-- src/remarks.rt:18:1
+returns-4 : tie.Need-returns-4
+returns-4 c = (puts-by (λ (x : Program). nameOf x ++ ascii ": ") (c .before .before .before .before .before .enum-told4 .given .1) (c .before .before .put-text4 .ensures), omega (arith, c .before .before .put-text4 .ensures .end))
+
+-- src/remarks.rt:18:1
+same-length-5 : tie.Need-same-length-5
+same-length-5 c = search needs
+
+-- src/remarks.rt:18:1
+returns-5 : tie.Need-returns-5
+returns-5 c = (puts-by (λ (x : Program). nameOf x ++ ascii ": ") (c .before .before .before .before .before .enum-told5 .given .1) (c .before .before .put-text5 .ensures), omega (arith, c .before .before .put-text5 .ensures .end))
+
 pub put-name-spec : {M : Type 1} → statement M
 put-name-spec =
     tie.close
@@ -85,9 +125,19 @@ put-name-spec =
     enum-told-3
     slice-aggregate-put-text-3
     put-text-requires-3
+    enum-told-4
+    slice-aggregate-put-text-4
+    put-text-requires-4
+    enum-told-5
+    slice-aggregate-put-text-5
+    put-text-requires-5
     same-length
     returns
     same-length-2
     returns-2
     same-length-3
-    returns-3)
+    returns-3
+    same-length-4
+    returns-4
+    same-length-5
+    returns-5)

@@ -80,6 +80,30 @@ enum-known-remark-3 c = search needs
 put-refusal-requires : tie.Need-put-refusal-requires
 put-refusal-requires c κs = search needs
 
+-- src/remarks.rt:124:25
+enum-known-remark-4 : tie.Need-enum-known-remark-4
+enum-known-remark-4 c = search needs
+
+-- src/remarks.rt:124:46
+slice-aggregate-put-number-2 : tie.Need-slice-aggregate-put-number-2
+slice-aggregate-put-number-2 c = search needs
+
+-- src/remarks.rt:124:35
+put-number-requires-2 : tie.Need-put-number-requires-2
+put-number-requires-2 c κs = search needs
+
+-- src/remarks.rt:125:46
+enum-told-4 : tie.Need-enum-told-4
+enum-told-4 c = search needs
+
+-- src/remarks.rt:125:46
+slice-aggregate-put-text-4 : tie.Need-slice-aggregate-put-text-4
+slice-aggregate-put-text-4 c = search needs
+
+-- src/remarks.rt:125:29
+put-text-requires-4 : tie.Need-put-text-requires-4
+put-text-requires-4 c κs = search needs
+
 -- src/remarks.rt:113:1
 same-length : tie.Need-same-length
 same-length c = search needs
@@ -134,6 +158,24 @@ returns-6 : tie.Need-returns-6
 unfolding remarkText
 returns-6 c = (puts-by remarkText (c .before .before .before .before .before .remark3 .given .1) (c .before .before .put-refusal .ensures .0), c .before .before .put-refusal .ensures .1)
 
+-- src/remarks.rt:113:1
+same-length-7 : tie.Need-same-length-7
+same-length-7 c = search needs
+
+-- src/remarks.rt:113:1
+returns-7 : tie.Need-returns-7
+unfolding remarkText
+returns-7 c = (puts-by remarkText (c .before .before .before .before .before .before .remark4 .given .1) (c .before .before .put-number2 .ensures .0), omega (arith, c .before .before .put-number2 .ensures .1))
+
+-- src/remarks.rt:113:1
+same-length-8 : tie.Need-same-length-8
+same-length-8 c = search needs
+
+-- src/remarks.rt:113:1
+returns-8 : tie.Need-returns-8
+unfolding remarkText
+returns-8 c = (puts-by remarkText (c .before .before .before .before .before .enum-told4 .given .1) (c .before .before .put-text4 .ensures), omega (arith, c .before .before .put-text4 .ensures .end))
+
 pub put-remark-spec : {M : Type 1} → statement M
 put-remark-spec =
     tie.close
@@ -155,6 +197,12 @@ put-remark-spec =
     put-number-requires
     enum-known-remark-3
     put-refusal-requires
+    enum-known-remark-4
+    slice-aggregate-put-number-2
+    put-number-requires-2
+    enum-told-4
+    slice-aggregate-put-text-4
+    put-text-requires-4
     same-length
     returns
     same-length-2
@@ -166,4 +214,8 @@ put-remark-spec =
     same-length-5
     returns-5
     same-length-6
-    returns-6)
+    returns-6
+    same-length-7
+    returns-7
+    same-length-8
+    returns-8)

@@ -1,0 +1,4 @@
+pub mod Walking
+pub mod Entries
+pub mod Listing
+pub mod Answering
