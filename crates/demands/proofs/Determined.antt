@@ -5,15 +5,17 @@ use Prim.Native.Nat.{ℕ}
 use lib.ListN.{length}
 use Rattle.text.proofs.Laws.{start-unique, take-unique}
 use Rattle.alu.proofs.Unique.{perform-unique, write-back-unique}
-use Rattle.isa.proofs.Laws.{decode-unique, look-up-unique, encode-unique, takes-immediate-unique}
+use Rattle.isa.proofs.Laws.{decode-unique, look-up-unique, encode-unique, takes-immediate-unique, number-of-unique, numbered-row-unique}
 use Rattle.plan.proofs.Laws.{plan-for-unique, names-immediate-unique}
 use Rattle.machine.proofs.Laws.{cycle-unique, may-start-unique}
 use Rattle.machine.proofs.Steps.{step-unique, core-of-unique, machine-from-unique}
 use Rattle.run.specs.Runs.{runOf, zeroMachine, fullBudget}
 use Rattle.run.proofs.Laws.{run-unique}
-use Rattle.demands.specs.Calls.{Filling, Determined, Starts, TakesText, Performs, WritesBack, Decodes, LooksUp, Encodes, TakesImmediate, Plans, NamesImmediate, Cycles, StepsMachine, TakesApart, PutsTogether, MayStart, Runs, RunsFromZero, Checks, ReadsTrace, WritesTrace, Keeps, MakesLine, CycleLines, StateLines, RegisterLines, LastLines, PageLines, WordsLines, FaultLines, RemarkLines, FillingBoth, ShowsRun, ShowsWords, TakesPieces, EndsTexts}
+use Rattle.demands.specs.Calls.{Filling, Determined, Starts, TakesText, Performs, WritesBack, Decodes, LooksUp, Encodes, TakesImmediate, NumbersFamily, GivesRow, Plans, NamesImmediate, Cycles, StepsMachine, TakesApart, PutsTogether, MayStart, Runs, RunsFromZero, Checks, ReadsTrace, WritesTrace, Keeps, MakesLine, CycleLines, StateLines, RegisterLines, WordRefusedLines, LastLines, PageLines, WordsLines, FaultLines, RemarkLines, FillingBoth, ShowsRun, ShowsWords, TakesPieces, EndsTexts, PrintsWord, ReadsWord, PrintsData, ReadsData, ShowsList, AnswersLines}
 use Rattle.trace.proofs.Unique.{check-unique, read-unique, write-unique, kept-unique}
 use Rattle.lines.proofs.Answered.{makes-unique}
+use Rattle.listing.proofs.Single.{line-of-unique, word-of-unique, data-line-unique, data-of-unique}
+use Rattle.listpages.proofs.Unique.{read-lines-unique}
 use Rattle.pages.proofs.Unique.{writes-unique, take-text-unique, end-text-unique}
 
 -- the same answer and the same lent output
@@ -43,6 +45,8 @@ pub record EveryCall : Type 0 where
   pub look-up : Determined LooksUp
   pub encode : Determined Encodes
   pub takes-immediate : Determined TakesImmediate
+  pub number-of : Determined NumbersFamily
+  pub numbered-row : Determined GivesRow
   pub plan-for : Determined Plans
   pub names-immediate : Determined NamesImmediate
   pub cycle : Determined Cycles
@@ -59,6 +63,7 @@ pub record EveryCall : Type 0 where
   pub cycle-line : Determined CycleLines
   pub state-line : Determined StateLines
   pub register-line : Determined RegisterLines
+  pub word-refused-line : Determined WordRefusedLines
   pub last-line : Determined LastLines
   pub page-line : Determined PageLines
   pub words-line : Determined WordsLines
@@ -69,6 +74,12 @@ pub record EveryCall : Type 0 where
   pub unpack-trace : Determined ShowsWords
   pub take-text : Determined TakesPieces
   pub end-text : Determined EndsTexts
+  pub line-of : Determined PrintsWord
+  pub word-of : Determined ReadsWord
+  pub data-line : Determined PrintsData
+  pub data-of : Determined ReadsData
+  pub list-trace : Determined ShowsList
+  pub read-lines : Determined AnswersLines
 
 pub every-call : EveryCall
 every-call = record {
@@ -80,6 +91,8 @@ every-call = record {
   look-up = look-up-unique;
   encode = encode-unique;
   takes-immediate = takes-immediate-unique;
+  number-of = number-of-unique;
+  numbered-row = numbered-row-unique;
   plan-for = plan-for-unique;
   names-immediate = names-immediate-unique;
   cycle = λ i x y f g. cycle-unique (i .0) (i .1) x y f g;
@@ -96,6 +109,7 @@ every-call = record {
   cycle-line = λ i. makes-line (_, i .1);
   state-line = λ i. makes-line (_, i .1);
   register-line = λ i. makes-line (_, i .2);
+  word-refused-line = λ i. makes-line (_, i .1);
   last-line = λ i. makes-line (_, i .2);
   page-line = λ i. makes-line (_, i .3);
   words-line = λ i. makes-line (_, i .2);
@@ -108,4 +122,10 @@ every-call = record {
   end-text = λ i x y f g.
       let u = end-text-unique (i .0) (x .answer .answer) (y .answer .answer) (i .1) (i .2) (i .3) (x .answer .after) (x .out) (x .errors) (y .answer .after) (y .out) (y .errors) f g in
       same-both x y (same-filling (x .answer) (y .answer) (u .0, u .1), u .2, u .3);
+  line-of = λ i x y f g. same-filling x y (line-of-unique (i .0) (i .1) (x .answer) (y .answer) (x .after) (y .after) f g);
+  word-of = word-of-unique;
+  data-line = λ i x y f g. same-filling x y (data-line-unique (i .0) (i .1) (x .answer) (y .answer) (x .after) (y .after) f g);
+  data-of = data-of-unique;
+  list-trace = λ i x y f g. same-both x y (writes-unique _ _ (x .answer) (y .answer) (i .1) (i .2) (x .out) (x .errors) (y .out) (y .errors) f g);
+  read-lines = λ i x y f g. same-filling x y (read-lines-unique (i .0) (i .1) (x .answer) (y .answer) (i .2) (x .after) (y .after) f g);
 }

@@ -18,6 +18,9 @@ use Rattle.isa.specs.declared.Named.{Named}
 use Rattle.isa.specs.declared.Lookup.{Lookup}
 use Rattle.isa.specs.declared.Decoded.{Decoded}
 use Rattle.isa.specs.declared.Encoded.{Encoded}
+use Rattle.isa.specs.declared.Family.{Family}
+use Rattle.isa.specs.declared.Row.{Row}
+use Rattle.isa.specs.Table.{rowAt, numberOf}
 use Rattle.isa.specs.Words.{decodedTells, decodeOf, lookupOf, encodedTells, encodeOf, takesImmediate}
 use Rattle.plan.specs.declared.Plan.{Plan}
 use Rattle.plan.specs.declared.Work.{Work}
@@ -43,7 +46,7 @@ use Rattle.trace.specs.Limits.{keptLength}
 use Rattle.trace.specs.Reading.{Reads}
 use Rattle.trace.specs.Writing.{Writes}
 use Rattle.lines.specs.declared.Line.{Line}
-use Rattle.lines.specs.Lines.{cycleLine, stateLine, registerLine, lastLine}
+use Rattle.lines.specs.Lines.{cycleLine, stateLine, registerLine, wordRefusedLine, lastLine}
 use Rattle.lines.specs.Answers.{Makes}
 use Rattle.lines.specs.Pages.{pageOf}
 use Rattle.lines.specs.Words.{wordsLine, faultLine}
@@ -56,6 +59,15 @@ use Rattle.pages.specs.Writing.{Writes as WritesBoth}
 use Rattle.pages.specs.Running.{pageText, pageSaid}
 use Rattle.pages.specs.Unpacking.{unpackedText, unpackedSaid}
 use Rattle.pages.specs.Packing.{TakesPiece, EndsText}
+use Rattle.listing.specs.declared.Printed.{Printed}
+use Rattle.listing.specs.declared.Read.{Read}
+use Rattle.listing.specs.Lines.{wordOf}
+use Rattle.listing.specs.Data.{dataOf}
+use Rattle.listing.specs.Answers.{printedTells, readTells, outcome, printInto, dataInto}
+use Rattle.listpages.specs.declared.Reading.{Reading}
+use Rattle.listpages.specs.declared.LinesRead.{LinesRead}
+use Rattle.listpages.specs.Listing.{listedText, listedSaid}
+use Rattle.listpages.specs.Answering.{ReadsLines}
 
 -- an answer, and lent output after the call
 pub record Filling (Answer : Type 0) : Type 0 where
@@ -93,6 +105,12 @@ Encodes n r = encodedTells r ≡ encodeOf n
 
 abbrev pub TakesImmediate : ℕ → Bool → Type 0
 TakesImmediate w r = r ≡ takesImmediate w
+
+abbrev pub NumbersFamily : Family → ℕ → Type 0
+NumbersFamily f r = r ≡ numberOf f
+
+abbrev pub GivesRow : ℕ → Row → Type 0
+GivesRow i r = r ≡ rowAt i
 
 -- plan
 abbrev pub Plans : Named → Plan → Type 0
@@ -167,6 +185,9 @@ RegisterLines i o = MakesLine (registerLine (i .0) (i .1), i .2) o
 abbrev pub LastLines : Ending × ℕ × List ℕ → Filling Line → Type 0
 LastLines i o = MakesLine (lastLine (i .0) (i .1), i .2) o
 
+abbrev pub WordRefusedLines : ℕ × List ℕ → Filling Line → Type 0
+WordRefusedLines i o = MakesLine (wordRefusedLine (i .0), i .1) o
+
 abbrev pub PageLines : Ran × List ℕ × ℕ × List ℕ → Filling Line → Type 0
 PageLines i o = MakesLine (getD (pageOf (i .0) (i .1)) (i .2) [], i .3) o
 
@@ -199,3 +220,23 @@ TakesPieces i o = TakesPiece (i .0) (i .1) (o .answer) (i .2) (i .3) (o .out) (o
 -- a reader at the end of a text, and the lent words, trace and slice before the call
 abbrev pub EndsTexts : Reader × List ℕ × List ℕ × List ℕ → FillingBoth (Filling Written) → Type 0
 EndsTexts i o = EndsText (i .0) (o .answer .answer) (i .1) (i .2) (i .3) (o .answer .after) (o .out) (o .errors)
+
+-- listing: a word or data, and the lent bytes before the call; a line
+abbrev pub PrintsWord : ℕ × List ℕ → Filling Printed → Type 0
+PrintsWord i o = outcome (printedTells (o .answer)) (o .after) ≡ printInto (i .0) (i .1)
+
+abbrev pub ReadsWord : List ℕ → Read → Type 0
+ReadsWord line r = readTells r ≡ wordOf line
+
+abbrev pub PrintsData : ℕ × List ℕ → Filling Printed → Type 0
+PrintsData i o = outcome (printedTells (o .answer)) (o .after) ≡ dataInto (i .0) (i .1)
+
+abbrev pub ReadsData : List ℕ → Read → Type 0
+ReadsData line r = readTells r ≡ dataOf line
+
+-- listpages: a trace, and both lent slices before the call; a reader and bytes, and the lent slice before the call
+abbrev pub ShowsList : List ℕ × List ℕ × List ℕ → FillingBoth Written → Type 0
+ShowsList i o = WritesBoth (listedText (i .0)) (listedSaid (i .0)) (o .answer) (i .1) (i .2) (o .out) (o .errors)
+
+abbrev pub AnswersLines : Reading × List ℕ × List ℕ → Filling LinesRead → Type 0
+AnswersLines i o = ReadsLines (i .0) (i .1) (o .answer) (i .2) (o .after)

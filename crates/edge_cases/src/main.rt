@@ -1,4 +1,4 @@
-// Runs the programs for traces over the files that its arguments name. They come in threes: a program, how its output goes ("written", or
+// Runs the programs for traces and listings over the files that its arguments name. They come in threes: a program, how its output goes ("written", or
 // "blocked" where it cannot be written), and a file. Each case has a line with the three, and then what the program writes and says, both on
 // standard output.
 use files::Files;
@@ -45,6 +45,8 @@ fn run_program(third: u8, files: Files) {
     match third {
         b'n' => printing::run_trace(files),
         b'c' => printing::pack_text(files),
+        b's' => listprinting::list_trace(files),
+        b'a' => listprinting::read_list(files),
         _ => printing::unpack_trace(files),
     }
 }
@@ -80,6 +82,8 @@ fn main() {
     files::print_usage(Program::RunTrace, STDOUT_FILENO);
     files::print_usage(Program::PackTrace, STDOUT_FILENO);
     files::print_usage(Program::UnpackTrace, STDOUT_FILENO);
+    files::print_usage(Program::ListTrace, STDOUT_FILENO);
+    files::print_usage(Program::ReadList, STDOUT_FILENO);
     let count = os::arg_count();
     let mut first: usize = 1;
     while first < MOST_ARGUMENTS {

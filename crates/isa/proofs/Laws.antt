@@ -17,6 +17,7 @@ use Rattle.choice.specs.Tells.{Tells, accepted, refused, tells}
 use Rattle.choice.proofs.Checks.{positive, exactly, cleared}
 use Rattle.choice.proofs.Tells.{accepted-one, refused-one, accepted-refused, told-accepted, told-number}
 use Rattle.isa.specs.declared.Family.{Family}
+use Rattle.isa.specs.declared.Row.{Row}
 use Rattle.isa.specs.declared.Named.{Named}
 use Rattle.isa.specs.declared.Lookup.{Lookup}
 use Rattle.isa.specs.declared.Decoded.{Decoded}
@@ -261,6 +262,12 @@ look-up-unique w r s p q = p ∙ sym q
 
 pub encode-unique : (n : Named) (r s : Encoded) → encodedTells r ≡ encodeOf n → encodedTells s ≡ encodeOf n → r ≡ s
 encode-unique n r s p q = encoded-one r s (p ∙ sym q)
+
+pub number-of-unique : (f : Family) (r s : ℕ) → r ≡ numberOf f → s ≡ numberOf f → r ≡ s
+number-of-unique f r s p q = p ∙ sym q
+
+pub numbered-row-unique : (i : ℕ) (r s : Row) → r ≡ rowAt i → s ≡ rowAt i → r ≡ s
+numbered-row-unique i r s p q = p ∙ sym q
 
 pub takes-immediate-unique : (w : ℕ) (r s : Bool) → r ≡ takesImmediate w → s ≡ takesImmediate w → r ≡ s
 takes-immediate-unique w r s p q = p ∙ sym q
