@@ -20,7 +20,7 @@ refused k = record { number = k; value = none }
 abbrev pub tells : {A : Type 0} → ℕ → A → Tells A
 tells k x = pick (eqb k 0) (accepted x) (refused k)
 
--- what an answer tells whose refusal may name a place: the index of a cycle or of a block, 0 where there is none
+-- what an answer tells whose refusal may name a place: the index of a cycle or of a block, or the column of an item; 0 where there is none
 pub record Placed (A : Type 0) : Type 0 where
   pub told : Tells A
   pub index : ℕ

@@ -58,11 +58,11 @@ module _ (mark q a b c : ℕ) (h : (mark < 2) × (q < 4) × (a < 16) × (b < 16)
 joined : (w : ℕ) → w < 0x10000 → wordOf (markOf w) (quadrantOf w) (fieldA w) (fieldB w) (fieldC w) ≡ w
 joined w h = omega (arith, div-div-eq-div-mul w 0x20 16, div-div-eq-div-mul w 0x200 16, div-div-eq-div-mul w 0x2000 4)
 
-mode-back : (d : Mode) → modeOf (markFor d) ≡ d
+pub mode-back : (d : Mode) → modeOf (markFor d) ≡ d
 mode-back Byte = refl
 mode-back Word = refl
 
-mark-back : (mark : ℕ) → mark < 2 → markFor (modeOf mark) ≡ mark
+pub mark-back : (mark : ℕ) → mark < 2 → markFor (modeOf mark) ≡ mark
 mark-back mark h = by-test (eqb mark 0) refl
   where
     by-test : (b : Bool) → eqb mark 0 ≡ b → markFor (pick b Byte Word) ≡ mark

@@ -6,9 +6,9 @@ use Prim.Native.Nat.{ℕ, zero, suc, _+_, _-_, _*_, _/_, _%_, _<_, _≤_}
 use native.Mathlib.Omega.{arith}
 use native.Mathlib.Numerals.{add-one}
 use lib.Dec.{T, eqb, ltb, ltb→lt}
-use lib.ListN.{length, set, length-append, length-set}
+use lib.ListN.{length, set, length-append}
 use lib.Seq.{sets, length-sets}
-use borrow.Author.Tests.{eqb-true, ne-eqb, eq-eqb}
+use borrow.Author.Tests.{ne-eqb, eq-eqb}
 use Rattle.choice.specs.Pick.{pick}
 use Rattle.choice.specs.Text.{blank}
 use Rattle.choice.proofs.Spans.{both}

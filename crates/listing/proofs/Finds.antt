@@ -1,5 +1,5 @@
 -- A value found by its key is the value found by its text, and a place's names are found in the table.
-use mathlib.Core.Path.{_≡_, refl, sym, ap, _∙_, subst}
+use mathlib.Core.Path.{_≡_, refl, sym, ap, _∙_}
 use mathlib.Core.Bool.{Bool, true, false, not}
 use mathlib.Core.List.{List, [], _∷_}
 use mathlib.Core.Option.{Option, none, some, Option·some-ne-none}
@@ -12,7 +12,7 @@ use lib.Seq.{drop-cons, getD-take, getD-drop}
 use borrow.Author.Tests.{eqb-true, eqb-false, eq-eqb, ne-eqb, ltb-true, ltb-false}
 use Rattle.choice.specs.Pick.{pick}
 use Rattle.choice.specs.Tells.{Placed, refusedAt}
-use Rattle.choice.proofs.Spans.{both, never, span, below}
+use Rattle.choice.proofs.Spans.{both, never}
 use Rattle.choice.proofs.Decisions.{along, along-by}
 use Rattle.choice.specs.Along.{Along}
 use Rattle.isa.specs.Sets.{has}
@@ -23,7 +23,7 @@ use Rattle.listing.specs.Places.{Place, place, written, sameText, textIn
 use Rattle.listing.specs.Items.{Item}
 use Rattle.listing.specs.Lines.{expect, valueThen, lowest, onlyOf, field, ended, pastOf}
 use Rattle.listing.specs.Keys.{keyOf, noKey, oneMore, keyFrom, keyIn, valueBy}
-use Rattle.listing.specs.Entries.{table, entries, entryOf, entryAt, noName, spanned, refusalBy, placed, sameNames, samePlace}
+use Rattle.listing.specs.Entries.{table, entries, entryOf, entryAt, noName, spanned, placed, sameNames, samePlace}
 use Rattle.listing.specs.Reading.{itemsAt, someLeft, Nexts, Steps, columnOf, firstKey, after}
 use Rattle.listing.proofs.Bytes.{proper, proper-first}
 use Rattle.listing.proofs.Tables.{every, fits, fits-proper, fits-small, same-text}

@@ -1,17 +1,16 @@
 -- Immediate data: its line gives the data, and a line that gives data is that data's line once runs of blanks are made one and the ends trimmed.
-use mathlib.Core.Path.{_≡_, refl, sym, ap, _∙_, subst}
+use mathlib.Core.Path.{_≡_, refl, sym, ap, _∙_}
 use mathlib.Core.Bool.{Bool, true, false}
 use mathlib.Core.List.{List, [], _∷_, append-nil}
 use mathlib.Core.Option.{Option, none, some, Option·getD, Option·some-injective, Option·some-ne-none}
 use Prim.Native.Nat.{ℕ, suc, _+_, _-_, _*_, _/_, _%_, _<_, _≤_}
 use native.Mathlib.Omega.{arith}
-use native.Mathlib.Numerals.{add-one}
 use lib.Dec.{T, eqb, ltb, eqb→eq, ltb→lt}
 use lib.ListN.{length, take, drop, getD, length-take, length-drop}
 use lib.Seq.{drop-cons, sets}
 use borrow.Author.Tests.{ne-eqb, lt-ltb, le-ltb, ltb-true, ltb-false}
 use Rattle.choice.specs.Pick.{pick}
-use Rattle.choice.specs.Tells.{Placed, accepted, refused, acceptedWhole, refusedAt}
+use Rattle.choice.specs.Tells.{accepted, refused, acceptedWhole, refusedAt}
 use Rattle.choice.specs.Text.{digit, hex}
 use Rattle.choice.proofs.Spans.{span, below, never, both}
 use Rattle.choice.proofs.Tells.{whole-one, whole-refused}
@@ -23,7 +22,7 @@ use Rattle.listing.specs.Keys.{keyOf, textOfKey}
 use Rattle.listing.specs.Reading.{columnOf, firstText, after}
 use Rattle.listing.proofs.Bytes.{proper, key-back, text-of}
 use Rattle.listing.proofs.Prints.{fill-short, fill-room}
-use Rattle.listing.proofs.Splits.{sound, full, texts, all-sound, joined-items, normal-items}
+use Rattle.listing.proofs.Splits.{sound, texts, joined-items, normal-items}
 
 -- digits there and back
 proper-test : T (span 0 16 (λ d. elim (ltb 0 (digit d)) [ true ↦ ltb (digit d) 256 | false ↦ false ]))

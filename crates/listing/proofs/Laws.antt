@@ -1,46 +1,31 @@
 -- What holds of lines: a word's line gives the word, and a line that gives a word is that word's line once runs of blanks are made one and
 -- the ends trimmed.
-use mathlib.Core.Path.{_≡_, refl, sym, ap, _∙_, subst}
-use mathlib.Core.Bool.{Bool, true, false}
+use mathlib.Core.Path.{_≡_, sym, ap, _∙_, subst}
+use mathlib.Core.Bool.{true}
 use mathlib.Core.List.{List, [], _∷_, _++_, append-nil}
-use mathlib.Core.Logic.{_⊎_, inl, inr}
-use Prim.Native.Nat.{ℕ, suc, _<_}
+use mathlib.Core.Logic.{inl, inr}
+use Prim.Native.Nat.{ℕ, _<_}
 use native.Mathlib.Omega.{arith}
-use lib.Dec.{T, eqb}
-use lib.ListN.{length}
-use borrow.Author.Tests.{eqb-true, eqb-false}
-use Rattle.choice.specs.Pick.{pick}
+use lib.Dec.{T}
 use Rattle.choice.specs.Tells.{Tells, accepted, refused, Placed, acceptedWhole}
 use Rattle.choice.proofs.Tells.{accepted-one, accepted-refused}
 use Rattle.alu.specs.declared.Mode.{Mode}
-use Rattle.alu.specs.declared.Mode.the-variants.{Byte, Word}
 use Rattle.isa.specs.declared.Family.{Family}
 use Rattle.isa.specs.declared.Named.{Named}
 use Rattle.isa.specs.declared.Row.{Row}
 use Rattle.isa.specs.Fields.{modeOf, markFor}
 use Rattle.isa.specs.Sets.{has}
 use Rattle.isa.specs.Table.{rowAt, noRow, numberOf}
-use Rattle.isa.specs.Words.{decodeOf, encodeOf, namedBy, namedRow}
+use Rattle.isa.specs.Words.{decodeOf, encodeOf, namedBy}
 use Rattle.isa.proofs.Families.{own-row, own-number, narrow, mark-small}
 use Rattle.isa.proofs.Takes.{taken, small}
-use Rattle.isa.proofs.Laws.{encode-decode, decode-encode, encode-takes, Answered, word-answered}
+use Rattle.isa.proofs.Laws.{mode-back, mark-back, encode-decode, decode-encode, encode-takes, Answered, word-answered}
 use Rattle.listing.specs.Places.{atFamily, atMode, formOf}
 use Rattle.listing.specs.Items.{joined, Item, itemsOf, normal}
 use Rattle.listing.specs.Lines.{textOf, fieldTexts, textsBy, textsOf, lineBy, lineOf, expect, field, ended, encoded, instruction, fieldsOf, wordFrom, wordOf, pastOf}
 use Rattle.listing.proofs.Tables.{mostValues, good, family-good, mode-good, good-a, good-b, good-c, Writes, writes-a, writes-b, writes-c, text-sound, family-text, family-small, mode-text, mode-small}
 use Rattle.listing.proofs.Splits.{texts, all-sound, all-full, joined-items, items-full, normal-items}
 use Rattle.listing.proofs.Steps.{expect-step, field-step, expect-met, field-met, ended-met, ended-step, sound-too, field-sound}
-
-mark-back : (mark : ℕ) → mark < 2 → markFor (modeOf mark) ≡ mark
-mark-back mark h = by-test (eqb mark 0) refl
-  where
-    by-test : (b : Bool) → eqb mark 0 ≡ b → markFor (pick b Byte Word) ≡ mark
-    by-test true q = sym (eqb-true mark 0 q)
-    by-test false q = omega (arith, eqb-false mark 0 q)
-
-mode-back : (m : Mode) → modeOf (markFor m) ≡ m
-mode-back Byte = refl
-mode-back Word = refl
 
 pub half : (v : ℕ) → v < 16 → v < mostValues
 half v h = omega arith

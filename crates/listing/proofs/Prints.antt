@@ -1,15 +1,14 @@
 -- The line that is put key by key is the line of the word.
 use mathlib.Core.Path.{_≡_, refl, sym, ap, _∙_, subst}
-use mathlib.Core.Bool.{Bool, true, false}
+use mathlib.Core.Bool.{true}
 use mathlib.Core.List.{List, [], _∷_, _++_, append-assoc, append-nil}
 use Prim.Native.Nat.{ℕ, _+_, _<_, _≤_}
 use native.Mathlib.Omega.{arith}
 use native.Mathlib.Nat.{zero-add}
-use lib.Dec.{T, eqb, ltb}
+use lib.Dec.{T}
 use lib.ListN.{length, drop}
 use lib.Seq.{sets, sets-eq}
 use borrow.Author.Tests.{lt-ltb, le-ltb}
-use Rattle.choice.specs.Pick.{pick}
 use Rattle.choice.specs.Tells.{Tells, accepted, refused}
 use Rattle.choice.proofs.Spans.{never}
 use Rattle.isa.specs.declared.Family.{Family}
@@ -17,10 +16,10 @@ use Rattle.isa.specs.declared.Named.{Named}
 use Rattle.isa.specs.Fields.{markFor}
 use Rattle.isa.specs.Sets.{has}
 use Rattle.isa.specs.Table.{rowAt, noRow, numberOf}
-use Rattle.isa.specs.Words.{decodeOf, encodeOf, namedBy}
+use Rattle.isa.specs.Words.{decodeOf, encodeOf}
 use Rattle.isa.proofs.Families.{own-row, narrow, mark-small}
 use Rattle.isa.proofs.Takes.{taken, small}
-use Rattle.isa.proofs.Laws.{encode-decode, encode-takes, decode-named}
+use Rattle.isa.proofs.Laws.{encode-decode, encode-takes}
 use Rattle.choice.specs.Along.{Along}
 use Rattle.choice.specs.Text.{blank}
 use Rattle.listing.specs.declared.Keys.{Keys}

@@ -2,14 +2,14 @@
 use mathlib.Core.Path.{_≡_, refl, sym, ap, _∙_, subst}
 use mathlib.Core.Bool.{Bool, true, false}
 use mathlib.Core.List.{List, [], _∷_, _++_, append-nil}
-use mathlib.Core.Logic.{_⊎_, inl, inr}
+use mathlib.Core.Logic.{inl, inr}
 use Prim.Native.Nat.{ℕ, zero, suc, _+_, _<_, _≤_, max}
 use native.Mathlib.Omega.{arith}
 use lib.Dec.{T, eqb, ltb, leb, ltb→lt, leb→le}
 use borrow.Author.Tests.{eqb-true, eqb-false, leb-false}
 use lib.ListN.{length, length-append}
 use Rattle.choice.specs.Pick.{pick}
-use Rattle.choice.specs.Tells.{Tells, accepted, refused, Placed, acceptedWhole, refusedAt}
+use Rattle.choice.specs.Tells.{accepted, refused}
 use Rattle.choice.proofs.Spans.{span, below}
 use Rattle.choice.specs.Checks.{refusal}
 use Rattle.choice.proofs.Checks.{cleared}

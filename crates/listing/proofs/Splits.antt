@@ -1,5 +1,5 @@
 -- Items and blanks: the items of joined texts are the texts, and a line's items joined are the line with runs of blanks made one, ends trimmed.
-use mathlib.Core.Path.{_≡_, refl, sym, ap, _∙_}
+use mathlib.Core.Path.{_≡_, refl, ap, _∙_}
 use mathlib.Core.Bool.{Bool, true, false}
 use mathlib.Core.List.{List, [], _∷_, _++_, map}
 use Prim.Native.Nat.{ℕ, suc}

@@ -5,11 +5,11 @@ use mathlib.Core.List.{List, [], _∷_, _++_}
 use mathlib.Core.Option.{Option, none, some}
 use Prim.Native.Nat.{ℕ, _<_}
 use native.Mathlib.Omega.{arith}
-use lib.Dec.{T, eqb}
+use lib.Dec.{T}
 use borrow.Author.Tests.{eqb-true}
 use Rattle.choice.specs.Pick.{pick}
-use Rattle.choice.specs.Tells.{Placed, acceptedWhole, refusedAt}
-use Rattle.choice.proofs.Spans.{both, never, holds}
+use Rattle.choice.specs.Tells.{Placed, acceptedWhole}
+use Rattle.choice.proofs.Spans.{both, holds}
 use Rattle.choice.proofs.Tells.{whole-refused}
 use Rattle.isa.specs.Sets.{has}
 use Rattle.listing.specs.Places.{Place, written, valueIn}

@@ -17,7 +17,7 @@ use Rattle.isa.specs.Table.{rowAt, noRow}
 use Rattle.listing.specs.Names.{Name}
 use Rattle.listing.specs.Places.{Place, written, atFamily, atMode, formOf, sameText, textIn, valueIn}
 use Rattle.listing.specs.Lines.{textOf, onlyOf}
-use Rattle.listing.specs.Keys.{keyOf, noKey, keyBytes, textOfKey, keyIn}
+use Rattle.listing.specs.Keys.{keyOf, keyBytes, textOfKey, keyIn}
 use Rattle.listing.proofs.Bytes.{proper, key-back, text-of}
 use Rattle.listing.proofs.Splits.{sound, full}
 

@@ -1,16 +1,13 @@
 -- A walk over the bytes of a line: blanks passed, an item passed, its key.
-use mathlib.Core.Path.{_≡_, refl, sym, ap, _∙_, subst}
+use mathlib.Core.Path.{_≡_, refl, sym, ap, _∙_}
 use mathlib.Core.Bool.{Bool, true, false}
 use mathlib.Core.List.{List, [], _∷_, _++_, append-nil, append-assoc}
-use Prim.Native.Nat.{ℕ, zero, suc, _+_, _-_, _<_, _≤_}
+use Prim.Native.Nat.{ℕ, suc, _+_, _-_, _<_, _≤_}
 use native.Mathlib.Omega.{arith}
 use native.Mathlib.Numerals.{add-one}
-use lib.Dec.{eqb}
 use lib.ListN.{length, take, drop, getD, length-drop, drop-of-length-le}
-use lib.Seq.{drop-cons, take-suc, getD-drop, slice-cons}
-use Rattle.choice.specs.Pick.{pick}
-use Rattle.listing.specs.declared.Next.{Next}
-use Rattle.listing.specs.Items.{isBlank, Item, item, itemsFrom, upToBlank}
+use lib.Seq.{drop-cons, take-suc, getD-drop}
+use Rattle.listing.specs.Items.{isBlank, item, itemsFrom, upToBlank}
 use Rattle.listing.specs.Keys.{keyFrom, oneMore, noKey}
 use Rattle.listing.specs.Reading.{itemsAt, Starts, Ends, Nexts, columnOf, firstKey, firstText, after, someLeft}
 

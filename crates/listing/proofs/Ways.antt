@@ -9,7 +9,6 @@ use Rattle.choice.specs.Along.{Along}
 use Rattle.choice.specs.Tells.{Placed, refusedAt}
 use Rattle.choice.proofs.Tells.{refused-at-one}
 use Rattle.alu.specs.declared.Mode.{Mode}
-use Rattle.isa.specs.declared.Named.{Named}
 use Rattle.isa.specs.declared.Row.{Row}
 use Rattle.isa.specs.Fields.{modeOf}
 use Rattle.isa.specs.Table.{rowAt, noRow}
@@ -20,7 +19,7 @@ use Rattle.listing.specs.Items.{Item}
 use Rattle.listing.specs.Lines.{valueThen, expect, field, ended, encoded, instruction, fieldsOf, wordOf, pastOf}
 use Rattle.listing.specs.Answers.{readTells}
 use Rattle.listing.specs.Entries.{placed, samePlace}
-use Rattle.listing.specs.Reading.{itemsAt, Steps, stepBound}
+use Rattle.listing.specs.Reading.{itemsAt, Steps}
 use Rattle.listing.proofs.Tables.{family-good, family-small, value-text, value-full}
 use Rattle.listing.proofs.Finds.{along-place}
 

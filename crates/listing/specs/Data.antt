@@ -1,10 +1,8 @@
 -- The line of immediate data, and the data of a line (document 02, request 1): exactly four capital hex digits.
-use Prim.Native.Nat.{ℕ, suc, _+_, _-_, _*_}
-use mathlib.Core.Bool.{Bool, true, false}
+use Prim.Native.Nat.{ℕ, _+_, _-_, _*_}
 use mathlib.Core.List.{List, [], _∷_}
 use mathlib.Core.Option.{Option, none, some}
 use lib.Dec.{ltb}
-use lib.ListN.{length}
 use Rattle.choice.specs.Pick.{pick}
 use Rattle.choice.specs.Tells.{Placed, acceptedWhole, refusedAt}
 use Rattle.choice.specs.Text.{hex}

@@ -16,7 +16,7 @@ use Rattle.isa.specs.Table.{numberOf}
 use Rattle.listing.specs.declared.Keys.{Keys}
 use Rattle.listing.specs.declared.Found.{Found}
 use Rattle.listing.specs.Names.{Name}
-use Rattle.listing.specs.Places.{Place, formOf, atFamily, atMode, textIn}
+use Rattle.listing.specs.Places.{formOf, atFamily, atMode, textIn}
 
 abbrev pub keyOf : List ℕ → ℕ
 keyOf [] = 0

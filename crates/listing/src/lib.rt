@@ -15,13 +15,12 @@ mod digits; // digits.rt: four hex digits
 ghost use mathlib.Core.Path.{_≡_};
 ghost use Prim.Native.Nat.{_≤_, _<_};
 ghost use lib.ListN.{length};
-ghost use lib.Seq.{sets};
 ghost use Rattle.isa.specs.Fields.{markFor, modeOf};
 ghost use Rattle.isa.specs.Table.{rowAt, noRow};
 ghost use Rattle.listing.specs.Lines.{ended, encoded, fieldsOf, wordOf, pastOf};
 ghost use Rattle.listing.specs.Data.{dataOf};
 ghost use Rattle.listing.specs.Answers.{printedTells, readTells, outcome, printInto, dataInto};
-ghost use Rattle.listing.specs.Keys.{keysOf, keysLine};
+ghost use Rattle.listing.specs.Keys.{keysOf};
 ghost use Rattle.listing.specs.Reading.{itemsAt};
 
 // No line of a word has more bytes, and no line of data.

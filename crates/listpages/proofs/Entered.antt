@@ -1,31 +1,28 @@
 -- The line of a word in a listing, and the answer to a line: the ways out of the calls.
-use mathlib.Core.Path.{_≡_, refl, sym, ap, subst, _∙_}
+use mathlib.Core.Path.{_≡_, refl, sym, ap, _∙_}
 use mathlib.Core.Bool.{Bool, true, false}
-use mathlib.Core.List.{List, [], _∷_, _++_, append-assoc}
+use mathlib.Core.List.{List, [], _∷_, _++_}
 use mathlib.Core.Option.{Option, none, some, Option·some-injective, Option·some-ne-none}
-use Prim.Native.Nat.{ℕ, suc, _+_, _<_, _≤_}
+use Prim.Native.Nat.{ℕ, _+_, _<_, _≤_}
 use native.Mathlib.Omega.{arith}
 use native.Mathlib.Numerals.{add-one}
 use lib.Dec.{ltb}
 use lib.ListN.{length, take, drop, set, length-append, length-drop, length-set}
 use lib.Seq.{take-suc-set, take-at, take-all}
-use borrow.Author.Tests.{ltb-true, ltb-false, le-ltb}
+use borrow.Author.Tests.{ltb-true, le-ltb}
 use Rattle.choice.specs.Pick.{pick}
-use Rattle.choice.specs.Tells.{Tells, accepted, refused, Placed, acceptedWhole, refusedAt}
+use Rattle.choice.specs.Tells.{Tells, accepted, refused}
 use Rattle.choice.specs.Text.{newline, hex}
 use Rattle.choice.proofs.Tells.{accepted-one, refused-one, accepted-refused}
 use Rattle.isa.specs.declared.Named.{Named}
 use Rattle.isa.specs.Words.{decodeOf, takesImmediate}
-use Rattle.lines.specs.declared.Line.{Line}
-use Rattle.lines.specs.Answers.{Makes}
 use Rattle.lines.specs.Lines.{wordRefusedLine}
-use Rattle.lines.proofs.Answered.{makes-as}
 use Rattle.listing.specs.Lines.{lineBy, lineOf, textsOf, wordOf}
 use Rattle.listing.specs.Items.{joined}
 use Rattle.listing.specs.Data.{dataLine, dataOf}
-use Rattle.listing.specs.Answers.{Outcome, outcome, fill, fillBy, printInto, dataInto}
+use Rattle.listing.specs.Answers.{Outcome, outcome, fill, printInto, dataInto}
 use Rattle.listing.proofs.Hex.{data-long}
-use Rattle.listing.proofs.Single.{longestLine, line-short}
+use Rattle.listing.proofs.Single.{line-short}
 use Rattle.listpages.specs.Entries.{instructionLine, entryLine, waitsAfter, refusalAt, lineTells}
 
 -- a line that filled bytes with room for its end: with the end put after it

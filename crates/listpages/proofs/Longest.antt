@@ -1,13 +1,11 @@
 -- No listing is longer than the room for it, nor are the answers to a piece.
-use mathlib.Core.Path.{_≡_, refl, sym, ap, _∙_}
+use mathlib.Core.Path.{_≡_, refl, ap}
 use mathlib.Core.Bool.{Bool, true, false}
 use mathlib.Core.List.{List, [], _∷_, _++_}
 use mathlib.Core.Option.{Option, none, some}
-use Prim.Native.Nat.{ℕ, zero, suc, _+_, _*_, _/_, _<_, _≤_}
+use Prim.Native.Nat.{ℕ, zero, suc, _+_, _*_, _≤_}
 use native.Mathlib.Omega.{arith}
-use lib.ListN.{length, take, length-append, length-take}
-use Rattle.choice.specs.Pick.{pick}
-use Rattle.choice.specs.Tells.{Tells, accepted, refused, Placed}
+use lib.ListN.{length, length-append}
 use Rattle.choice.specs.Text.{newline, hex}
 use Rattle.run.specs.Splitting.{cyclesIn}
 use Rattle.run.specs.Runs.{mostCycles}
@@ -15,12 +13,10 @@ use Rattle.trace.specs.Layout.{wordsPerRecord}
 use Rattle.lines.specs.Lines.{wordRefusedLine, refusedLine}
 use Rattle.lines.proofs.Longest.{word-refused-line-le, refused-line-le}
 use Rattle.listing.specs.Lines.{lineOf}
-use Rattle.listing.specs.Data.{dataLine}
 use Rattle.listing.proofs.Hex.{data-long}
-use Rattle.listing.proofs.Single.{longestLine, line-short}
+use Rattle.listing.proofs.Single.{line-short}
 use Rattle.listpages.specs.declared.Reading.{Reading}
-use Rattle.listpages.specs.Walking.{textFrom}
-use Rattle.listpages.specs.Entries.{instructionLine, entryLine, waitsAfter, lineTells, answerBy, answerLine}
+use Rattle.listpages.specs.Entries.{instructionLine, entryLine, waitsAfter, lineTells, answerLine}
 use Rattle.listpages.specs.Listing.{lineWordsFrom, lineWords, listText}
 use Rattle.listpages.specs.Answering.{linesOf, afterLine, answerTo, answersOf}
 use Rattle.listpages.proofs.Walks.{text-le}

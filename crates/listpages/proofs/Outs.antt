@@ -2,7 +2,7 @@
 use mathlib.Core.Path.{_≡_, refl, sym, ap, subst, _∙_}
 use mathlib.Core.Bool.{Bool, true, false}
 use mathlib.Core.List.{List, [], _∷_, _++_}
-use mathlib.Core.Option.{Option, none, some}
+use mathlib.Core.Option.{none, some}
 use Prim.Native.Nat.{ℕ, suc, _+_, _-_, _<_, _≤_}
 use native.Mathlib.Omega.{arith}
 use native.Mathlib.Numerals.{add-one}
@@ -36,8 +36,6 @@ use Rattle.listing.specs.Answers.{readTells}
 use Rattle.listpages.specs.declared.Answer.{Answer}
 use Rattle.listpages.specs.declared.Reading.{Reading}
 use Rattle.listpages.specs.declared.Joined.{Joined}
-use Rattle.listpages.specs.declared.LinesRead.{LinesRead}
-use Rattle.listpages.specs.Walking.{textFrom}
 use Rattle.listpages.specs.Entries.{entryLine, waitsAfter, refusalAt, lineTells, answerBy, answerLine, waitsBy, waitsNext, isNone, isRefused, Answers}
 use Rattle.listpages.specs.Listing.{lineWord, lineWordsFrom, lineWords, listText, saidFrom, listSaid, listedText, listedSaid}
 use Rattle.listpages.specs.Answering.{linesOf, counted, afterLine, answerTo, answersOf, readingAfter, LineEnds, JoinsAnswers, pieceBytes, ReadsLines}

@@ -26,6 +26,12 @@ print-usage-requires-2 c κs = search needs
 print-usage-requires-3 : tie.Need-print-usage-requires-3 Inv-loop μ-loop
 print-usage-requires-3 c κs = search needs
 
+print-usage-requires-4 : tie.Need-print-usage-requires-4 Inv-loop μ-loop
+print-usage-requires-4 c κs = search needs
+
+print-usage-requires-5 : tie.Need-print-usage-requires-5 Inv-loop μ-loop
+print-usage-requires-5 c κs = search needs
+
 arg-count-requires : tie.Need-arg-count-requires Inv-loop μ-loop
 arg-count-requires c κs = search needs
 
@@ -64,6 +70,8 @@ main-spec =
     print-usage-requires
     print-usage-requires-2
     print-usage-requires-3
+    print-usage-requires-4
+    print-usage-requires-5
     arg-count-requires
     loop-holds
     add-if1

@@ -1,11 +1,9 @@
+-- `listing::data_line` meets its contract.
 use Rattle.listing.proofs.Hex.{data-short, data-filled, key-data, data-long}
 use Rattle.listing.specs.Keys.{textOfKey}
 use lib.Seq.{sets}
-use lib.ListN.{length}
-use mathlib.Core.List.{List}
-use Prim.Native.Nat.{ℕ}
 use native.Mathlib.Omega.{arith}
-use mathlib.Core.Path.{_≡_, sym, ap, _∙_}
+use mathlib.Core.Path.{ap, _∙_}
 use borrow.Author.Needs.{needs}
 use Rattle.listing.proofs.data_line.Statement.{statement}
 use Rattle.listing.proofs.data_line.Tie as tie

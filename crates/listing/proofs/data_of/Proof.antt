@@ -1,8 +1,8 @@
+-- `listing::data_of` meets its contract.
 use Rattle.listing.proofs.Hex.{other-length, not-digits, are-digits}
 use Rattle.listing.proofs.Finds.{ended-left, ended-none}
 use Rattle.listing.specs.Reading.{itemsAt}
 use Rattle.listing.specs.Lines.{pastOf}
-use native.Mathlib.Omega.{arith}
 use Rattle.choice.specs.Tells.{acceptedWhole, refusedAt}
 use mathlib.Core.Path.{sym, ap, _∙_}
 use borrow.Author.Needs.{needs}

@@ -1,3 +1,4 @@
+-- `listing::fields` meets its contract.
 use Rattle.listing.proofs.Ways.{value-bound, way-a, way-b, way-c, way-end}
 use borrow.Author.Needs.{needs}
 use Rattle.listing.proofs.fields.Statement.{statement}

@@ -1,3 +1,4 @@
+-- `listing::keys_of` meets its contract.
 use Rattle.listing.proofs.Prints.{keys-are}
 use borrow.Author.Needs.{needs}
 use Rattle.listing.proofs.keys_of.Statement.{statement}

@@ -1,3 +1,4 @@
+-- `listing::line_of` meets its contract.
 use Rattle.listing.proofs.Prints.{refused-out, short-out, filled-out}
 use Rattle.listing.specs.Keys.{keysLine}
 use Rattle.listing.specs.declared.Keys.{Keys}
@@ -5,7 +6,7 @@ use Rattle.isa.specs.Words.{decodedTells}
 use lib.Seq.{sets}
 use lib.ListN.{length}
 use native.Mathlib.Omega.{arith}
-use mathlib.Core.Path.{_≡_, sym, ap, _∙_}
+use mathlib.Core.Path.{sym, ap, _∙_}
 use borrow.Author.Needs.{needs}
 use Rattle.listing.proofs.line_of.Statement.{statement}
 use Rattle.listing.proofs.line_of.Tie as tie

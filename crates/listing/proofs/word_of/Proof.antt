@@ -1,3 +1,4 @@
+-- `listing::word_of` meets its contract.
 use Rattle.listing.proofs.Ways.{value-bound, family-bound, way-family, way-mode, way-word}
 use borrow.Author.Needs.{needs}
 use Rattle.listing.proofs.word_of.Statement.{statement}

@@ -1,4 +1,4 @@
-use native.Mathlib.Omega.{arith}
+-- `listing::digits::data_at` meets its contract.
 use Rattle.listing.proofs.Hex.{at-a, at-b, at-c, at-d, at-end}
 use borrow.Author.Needs.{needs}
 use Rattle.listing.proofs.digits.data_at.Statement.{statement}

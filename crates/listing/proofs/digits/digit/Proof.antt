@@ -1,3 +1,4 @@
+-- `listing::digits::digit` meets its contract.
 use borrow.Author.Tests.{lt-ltb, le-ltb}
 use native.Mathlib.Omega.{arith}
 use borrow.Author.Needs.{needs}

@@ -1,3 +1,4 @@
+-- `listing::digits::digit_of` meets its contract.
 use borrow.Author.Tests.{lt-ltb, le-ltb}
 use borrow.Author.Needs.{needs}
 use Rattle.listing.proofs.digits.digit_of.Statement.{statement}

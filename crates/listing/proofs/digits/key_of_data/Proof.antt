@@ -1,3 +1,4 @@
+-- `listing::digits::key_of_data` meets its contract.
 use Rattle.listing.proofs.Hex.{spelt-key}
 use borrow.Author.Needs.{needs}
 use Rattle.listing.proofs.digits.key_of_data.Statement.{statement}

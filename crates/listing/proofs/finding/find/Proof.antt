@@ -1,3 +1,4 @@
+-- `listing::finding::find` meets its contract.
 use borrow.Author.Tests.{ltb-true, ltb-false}
 use borrow.Author.Needs.{needs}
 use Rattle.listing.proofs.Finds.{find-here, find-next, find-end}

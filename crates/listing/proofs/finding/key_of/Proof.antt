@@ -1,3 +1,4 @@
+-- `listing::finding::key_of` meets its contract.
 use borrow.Author.Tests.{ltb-true, ltb-false}
 use borrow.Author.Needs.{needs}
 use Rattle.listing.proofs.Finds.{key-found, key-next, key-end}

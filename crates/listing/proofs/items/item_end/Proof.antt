@@ -1,9 +1,8 @@
-use mathlib.Core.Path.{_≡_, refl, sym, ap, _∙_}
-use Prim.Native.Nat.{ℕ, suc, _+_, _-_, _≤_, _<_}
-use lib.ListN.{length, take, drop, getD}
+-- `listing::items::item_end` meets its contract.
+use Prim.Native.Nat.{_-_}
+use lib.ListN.{length}
 use native.Mathlib.Omega.{arith}
-use borrow.Author.Tests.{eq-eqb, ne-eqb, lt-ltb, le-ltb}
-use Rattle.listing.specs.Reading.{itemsAt}
+use borrow.Author.Tests.{eq-eqb, ne-eqb}
 use Rattle.listing.proofs.Walks.{Within, within-start, within-turn, within-blank, within-end}
 use Rattle.listing.proofs.items.item_end.Statement.{statement}
 use Rattle.listing.proofs.items.item_end.Tie as tie

@@ -1,9 +1,9 @@
+-- `listing::items::key_of_bytes` meets its contract.
 use borrow.Author.Needs.{needs}
-use mathlib.Core.Path.{_≡_, refl, sym, ap, _∙_}
-use Prim.Native.Nat.{ℕ, suc, _+_, _-_, _≤_, _<_}
-use lib.ListN.{length, take, drop, getD}
+use mathlib.Core.Path.{_≡_, ap, _∙_}
+use Prim.Native.Nat.{ℕ, _-_, _≤_}
+use lib.ListN.{take, drop}
 use native.Mathlib.Omega.{arith}
-use borrow.Author.Tests.{eq-eqb, ne-eqb, lt-ltb, le-ltb}
 use Rattle.listing.specs.Keys.{keyFrom}
 use Rattle.listing.proofs.Walks.{key-turn-down}
 use Rattle.listing.proofs.items.key_of_bytes.Statement.{statement}

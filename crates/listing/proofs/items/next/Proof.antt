@@ -1,3 +1,4 @@
+-- `listing::items::next` meets its contract.
 use Rattle.listing.proofs.Walks.{next-found, next-none}
 use borrow.Author.Needs.{needs}
 use Rattle.listing.proofs.items.next.Statement.{statement}

@@ -1,3 +1,4 @@
+-- `listing::names::entry` meets its contract.
 use Rattle.listing.proofs.Finds.{stretch, six}
 use native.Mathlib.Omega.{arith}
 use borrow.Author.Needs.{needs}

@@ -1,3 +1,4 @@
+-- `listing::places::place_a` meets its contract.
 use borrow.Author.Needs.{needs}
 use Rattle.listing.proofs.places.place_a.Statement.{statement}
 use Rattle.listing.proofs.places.place_a.Tie as tie

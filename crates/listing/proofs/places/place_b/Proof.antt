@@ -1,3 +1,4 @@
+-- `listing::places::place_b` meets its contract.
 use borrow.Author.Needs.{needs}
 use Rattle.listing.proofs.places.place_b.Statement.{statement}
 use Rattle.listing.proofs.places.place_b.Tie as tie

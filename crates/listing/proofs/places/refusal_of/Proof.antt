@@ -1,3 +1,4 @@
+-- `listing::places::refusal_of` meets its contract.
 use borrow.Author.Tests.{eq-eqb, ne-eqb, lt-ltb, le-ltb}
 use Rattle.listing.proofs.places.refusal_of.Statement.{statement}
 use Rattle.listing.proofs.places.refusal_of.Tie as tie

@@ -1,3 +1,4 @@
+-- `listing::reading::expect` meets its contract.
 use Rattle.listing.proofs.Finds.{step-value, step-none}
 use Rattle.listing.specs.Keys.{foundTells}
 use mathlib.Core.Path.{sym, ap, _∙_}

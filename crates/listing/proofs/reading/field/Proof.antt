@@ -1,3 +1,4 @@
+-- `listing::reading::field` meets its contract.
 use Rattle.listing.proofs.Finds.{field-left, field-written}
 use mathlib.Core.Path.{sym, _∙_}
 use borrow.Author.Needs.{needs}

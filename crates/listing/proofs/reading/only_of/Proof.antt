@@ -1,10 +1,11 @@
+-- `listing::reading::only_of` meets its contract.
 use Rattle.listing.proofs.Finds.{lowest-here, lowest-next, lowest-none}
 use Rattle.listing.specs.Lines.{lowest}
 use Prim.Native.Nat.{ℕ}
 use borrow.Author.Tests.{eq-eqb, ne-eqb}
 use native.Mathlib.Omega.{arith}
 use Prim.Native.Nat.{_+_, _-_, _≤_}
-use mathlib.Core.Path.{_≡_, refl, sym, ap, _∙_}
+use mathlib.Core.Path.{_≡_, refl, ap, _∙_}
 use Rattle.listing.proofs.reading.only_of.Statement.{statement}
 use Rattle.listing.proofs.reading.only_of.Tie as tie
 use Rattle.listing.proofs.reading.only_of.Reads as reads

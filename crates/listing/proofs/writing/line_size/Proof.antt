@@ -1,5 +1,5 @@
+-- `listing::writing::line_size` meets its contract.
 use native.Mathlib.Omega.{arith}
-use lib.ListN.{length}
 use Rattle.listing.proofs.Bytes.{text-short, after-short, line-long}
 use borrow.Author.Needs.{needs}
 use Rattle.listing.proofs.writing.line_size.Statement.{statement}

@@ -1,4 +1,5 @@
-use Rattle.listing.proofs.Bytes.{room-0, room-1, room-2, room-3, room-4, all-put, puts-long}
+-- `listing::writing::put_line` meets its contract.
+use Rattle.listing.proofs.Bytes.{room-0, room-1, room-2, room-3, room-4, all-put}
 use borrow.Author.Needs.{needs}
 use Rattle.listing.proofs.writing.put_line.Statement.{statement}
 use Rattle.listing.proofs.writing.put_line.Tie as tie

@@ -1,3 +1,4 @@
+-- `listpages::answering::count` meets its contract.
 use borrow.Author.Tests.{lt-ltb, le-ltb}
 use borrow.Author.Needs.{needs}
 use Rattle.listpages.proofs.answering.count.Statement.{statement}

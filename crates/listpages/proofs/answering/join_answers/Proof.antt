@@ -1,3 +1,4 @@
+-- `listpages::answering::join_answers` meets its contract.
 use Rattle.listpages.proofs.Outs.{Answered, next-reading, answers-begun, answers-at, answers-grown, answers-turn, answers-ended, answers-long}
 use lib.ListN.{length}
 use Prim.Native.Nat.{_-_}

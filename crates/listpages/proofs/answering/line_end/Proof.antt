@@ -1,3 +1,4 @@
+-- `listpages::answering::line_end` meets its contract.
 use Rattle.listpages.proofs.Lined.{Within, within-start, within-turn, ends-feed, ends-bytes}
 use lib.ListN.{length}
 use Prim.Native.Nat.{_-_}

@@ -1,3 +1,4 @@
+-- `listpages::answering::piece_end` meets its contract.
 use lib.ListN.{length-take}
 use native.Mathlib.Omega.{arith}
 use Rattle.listpages.proofs.answering.piece_end.Statement.{statement}

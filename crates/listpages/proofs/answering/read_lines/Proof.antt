@@ -1,3 +1,4 @@
+-- `listpages::answering::read_lines` meets its contract.
 use Rattle.listpages.proofs.Outs.{piece-bound, piece-fits, piece-reads}
 use lib.ListN.{length-take}
 use native.Mathlib.Omega.{arith}

@@ -1,3 +1,4 @@
+-- `listpages::entries::answer_line` meets its contract.
 use Rattle.listpages.proofs.Outs.{answered-word, answered-refusal}
 use Rattle.lines.specs.Lines.{lastLine}
 use borrow.Author.Needs.{needs}

@@ -1,3 +1,4 @@
+-- `listpages::entries::entry_line` meets its contract.
 use Rattle.listpages.proofs.Entered.{entry-data, entry-word}
 use Rattle.lines.proofs.Answered.{makes-as}
 use borrow.Author.Needs.{needs}

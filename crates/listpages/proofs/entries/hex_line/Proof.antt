@@ -1,3 +1,4 @@
+-- `listpages::entries::hex_line` meets its contract.
 use Rattle.listpages.proofs.Entered.{hex-filled}
 use Rattle.lines.proofs.Answered.{makes-as}
 use mathlib.Core.Path.{refl}

@@ -1,3 +1,4 @@
+-- `listpages::entries::instruction_line` meets its contract.
 use Rattle.listpages.proofs.Entered.{filled-short, filled-long, filled-line, refused-line}
 use Rattle.listing.specs.Answers.{printedTells, outcome}
 use Rattle.listing.specs.declared.Printed.{Printed}

@@ -1,3 +1,4 @@
+-- `listpages::entries::read_line` meets its contract.
 use Rattle.listpages.proofs.Entered.{tells-data, tells-word}
 use mathlib.Core.Path.{_∙_}
 use borrow.Author.Needs.{needs}

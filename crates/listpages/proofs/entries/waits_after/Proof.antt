@@ -1,3 +1,4 @@
+-- `listpages::entries::waits_after` meets its contract.
 use Rattle.listpages.proofs.Entered.{after-word}
 use mathlib.Core.Path.{_∙_}
 use borrow.Author.Needs.{needs}

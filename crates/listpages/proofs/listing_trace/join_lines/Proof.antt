@@ -1,3 +1,4 @@
+-- `listpages::listing_trace::join_lines` meets its contract.
 use Rattle.listpages.proofs.Outs.{list-begun, list-at, list-grown, list-turn, list-ended}
 use Rattle.listpages.proofs.Walks.{Walks}
 use Rattle.listpages.specs.Listing.{lineWordsFrom, listText}

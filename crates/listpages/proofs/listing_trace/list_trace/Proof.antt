@@ -1,3 +1,4 @@
+-- `listpages::listing_trace::list_trace` meets its contract.
 use Rattle.listpages.proofs.Outs.{listed-refused, listed-read}
 use Rattle.pages.proofs.Outs.{read-le}
 use Rattle.lines.specs.Lines.{lastLine}

@@ -1,3 +1,4 @@
+-- `listpages::listing_trace::list_words` meets its contract.
 use Rattle.listpages.proofs.Longest.{list-fits}
 use Rattle.lines.proofs.Putting.{line-made}
 use lib.ListN.{length-take}

@@ -1,3 +1,4 @@
+-- `listpages::listing_trace::refusal_at` meets its contract.
 use Rattle.listpages.proofs.Entered.{refusal-word}
 use Rattle.isa.specs.Words.{decodedTells}
 use Rattle.choice.specs.Tells.{Tells}

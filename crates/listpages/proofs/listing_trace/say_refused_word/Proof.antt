@@ -1,15 +1,13 @@
+-- `listpages::listing_trace::say_refused_word` meets its contract.
 use Rattle.listpages.proofs.Outs.{made-in, makes-long, said-begun, said-word, said-next, said-none}
 use Rattle.listpages.specs.Listing.{lineWordsFrom, saidFrom, listSaid}
 use Rattle.lines.proofs.Answered.{makes-as, nothing-made}
-use Rattle.lines.specs.Answers.{Makes}
 use Rattle.run.specs.Splitting.{cyclesIn}
 use lib.ListN.{length}
 use borrow.Author.Needs.{needs}
 use native.Mathlib.Omega.{arith}
-use Prim.Native.Nat.{ℕ, _-_, _≤_}
-use mathlib.Core.Bool.{false}
-use mathlib.Core.List.{List, []}
-use mathlib.Core.Path.{_≡_, refl, sym, ap, subst, _∙_}
+use Prim.Native.Nat.{_-_, _≤_}
+use mathlib.Core.Path.{_≡_, refl, ap, _∙_}
 use Rattle.listpages.proofs.listing_trace.say_refused_word.Statement.{statement}
 use Rattle.listpages.proofs.listing_trace.say_refused_word.Tie as tie
 use Rattle.listpages.proofs.listing_trace.say_refused_word.Reads as reads

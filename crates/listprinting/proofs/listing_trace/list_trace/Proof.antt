@@ -1,3 +1,4 @@
+-- `listprinting::listing_trace::list_trace` meets its contract.
 use lib.ListN.{length-take}
 use native.Mathlib.Omega.{arith}
 use borrow.Author.Needs.{needs}

@@ -1,3 +1,4 @@
+-- `listprinting::reading_list::end_list` meets its contract.
 use lib.ListN.{length-take}
 use native.Mathlib.Omega.{arith}
 use borrow.Author.Needs.{needs}

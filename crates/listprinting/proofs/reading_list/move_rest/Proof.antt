@@ -1,3 +1,4 @@
+-- `listprinting::reading_list::move_rest` meets its contract.
 use lib.ListN.{length, length-set}
 use Prim.Native.Nat.{_-_, _≤_}
 use mathlib.Core.Path.{_≡_, refl}

@@ -1,3 +1,4 @@
+-- `listprinting::reading_list::take_lines` meets its contract.
 use borrow.Author.Needs.{needs}
 use lib.ListN.{length, length-take}
 use Prim.Native.Nat.{_≤_}

@@ -1,3 +1,4 @@
+-- `listprinting::reading_list::whole_lines` meets its contract.
 use lib.ListN.{length}
 use Prim.Native.Nat.{_≤_}
 use native.Mathlib.Omega.{arith}
