@@ -20,7 +20,7 @@ use Rattle.machine.specs.declared.Registers.{Registers}
 use Rattle.machine.specs.declared.Machine.{Machine}
 use Rattle.machine.specs.declared.Words.{Words}
 use Rattle.machine.specs.Pins.{ienHigh, strayPin, busClash}
-use Rattle.machine.specs.Judging.{Judgement, Refuse, Wait, beginChecks, secondChecks, checksOf, acceptedAs, judged, perform, judgementOf}
+use Rattle.machine.specs.Judging.{Judgement, Refuse, Wait, OfWord, beginChecks, secondChecks, checksOf, acceptedAs, judged, perform, judgementOf}
 use Rattle.machine.specs.Settling.{latched}
 use Rattle.machine.specs.Cycles.{turnOf, cycleOf}
 
@@ -63,13 +63,7 @@ module _ (c : Words) where
       (by-number (λ d. T (without 10 (check 5 (strayPin (c .pins)) ∷ check 6 (busClash (c .pins)) ∷ check d (not (eqb d 0)) ∷ []))) tt tt tt tt (c .lines))
 
 -- 7, 8 or 9: the word's own number, with good pins
-pub record Between (k : ℕ) : Type 0 where
-  pub not-0 : k ≡ 0 → ⊥
-  pub not-5 : k ≡ 5 → ⊥
-  pub not-6 : k ≡ 6 → ⊥
-  pub not-10 : k ≡ 10 → ⊥
-
-word-parts : (s b t : Bool) (d k : ℕ) → Between k
+word-parts : (s b t : Bool) (d k : ℕ) → OfWord k
     → (refusal (check 5 s ∷ check 6 b ∷ check d (not (eqb d 0)) ∷ check 10 t ∷ []) ≡ k) ↔ ((s ≡ false) × (b ≡ false) × (d ≡ k))
 word-parts true b t d k h = ((λ e. absurd (h .not-5 (sym e))), (λ z. absurd (never (sym (z .0)))))
 word-parts false true t d k h = ((λ e. absurd (h .not-6 (sym e))), (λ z. absurd (never (sym (z .1)))))
@@ -81,7 +75,7 @@ word-parts false false t d k h = by-test (eqb d 0) refl t
     by-test true q false = ((λ e. absurd (h .not-0 (sym e))), (λ z. absurd (h .not-0 (sym (z .2) ∙ eqb-true d 0 q))))
     by-test false q t = ((λ e. (refl, refl, e)), (λ z. z .2))
 
-pub begin-word : (c : Words) (k : ℕ) → Between k
+pub begin-word : (c : Words) (k : ℕ) → OfWord k
     → (refusal (beginChecks c) ≡ k) ↔ ((strayPin (c .pins) ≡ false) × (busClash (c .pins) ≡ false) × (decodeOf (c .lines) .number ≡ k))
 begin-word c k h = word-parts (strayPin (c .pins)) (busClash (c .pins)) (late c) (number c) k h
 

@@ -1,101 +1,140 @@
--- What holds of every cycle.
-use mathlib.Core.Path.{_≡_, refl, _∙_, sym, ap}
+-- What holds of every cycle: a refused one changes nothing (`refused-unchanged`), one that only waits keeps its word (`wait-changes`), an
+-- accepted one completes or waits (`completes-or-waits`, `waiting-completes`) and leaves a machine that may start (`accepted-may-start`), and
+-- what IEN and SRE keep (`ien-high-keeps`, `status-kept`); and that no two outcomes satisfy a call's statement.
+use mathlib.Core.Path.{_≡_, refl, _∙_, sym, ap, subst, subst⁻¹}
 use mathlib.Core.Bool.{Bool, true, false}
 use mathlib.Core.Option.{some, Option·some-injective, Option·some-ne-none}
 use Prim.Native.Nat.{ℕ, _+_, _%_}
 use native.Mathlib.Omega.{arith}
 use borrow.Author.Tests.{eqb-true, ne-eqb}
-use Rattle.choice.specs.Tells.{accepted, refused}
+use Rattle.choice.specs.Tells.{Tells, accepted, refused}
 use Rattle.choice.proofs.Picks.{picked, unpicked}
+use Rattle.choice.proofs.Spans.{never}
 use Rattle.choice.proofs.Tells.{accepted-one, refused-one, accepted-refused}
-use Rattle.alu.specs.declared.Mode.{Mode}
+use Rattle.isa.specs.Words.{namedBy, takesImmediate}
 use Rattle.machine.specs.declared.Waiting.{Waiting}
 use Rattle.machine.specs.declared.Waiting.the-variants.{Nothing, Held}
 use Rattle.machine.specs.declared.Registers.{Registers}
 use Rattle.machine.specs.declared.Machine.{Machine}
 use Rattle.machine.specs.declared.Words.{Words}
+use Rattle.machine.specs.declared.Completed.{Completed}
+use Rattle.machine.specs.declared.Completed.the-variants.{NoInstruction, Instruction}
 use Rattle.machine.specs.declared.Report.{Report}
 use Rattle.machine.specs.declared.Answer.{Answer}
 use Rattle.machine.specs.declared.Turn.{Turn}
-use Rattle.machine.specs.declared.Effect.{Effect}
 use Rattle.machine.specs.Pins.{ienHigh, bothLow}
-use Rattle.machine.specs.Judging.{Judgement, Refuse, Wait, Perform, judgementOf, mayStart}
-use Rattle.machine.specs.Settling.{latched, withWaiting, ramAfter, accAfter, settledOf}
-use Rattle.machine.specs.Cycles.{Turned, machineOf, turnOf, cycleOf, answerTells, turnTells, completions}
+use Rattle.machine.specs.Judging.{wordAbout, waitingWords, mayStart}
+use Rattle.machine.specs.Settling.{withWaiting, settledOf}
+use Rattle.machine.specs.Cycles.{Turned, machineOf, cycleOf, answerTells, turnTells, completions}
+use Rattle.machine.proofs.Ways.{before, named, every-way}
 
--- the judgement of a cycle, and the registers that it works on
+-- an answer that is told as a report has that report; a refused one has none
+told : {A : Type 0} (field : Report → A) (x : Report) (r : Report) → accepted x ≡ accepted r → field x ≡ field r
+told field x r e = ap field (accepted-one x r e)
+
+refused-has-none : {A : Type 0} (k : ℕ) (r : Report) → refused k ≡ accepted r → A
+refused-has-none k r e = absurd (accepted-refused r k (sym e))
+
+completed-differ : {n : _} → Instruction n ≡ NoInstruction → ⊥
+completed-differ e =
+    let one : _≡_ {A = ℕ} 1 0 = ap completions e in
+    omega (arith, one)
+
 module _ (m : Machine) (c : Words) where
-  abbrev pub judgement : Judgement
-  judgement = judgementOf (m .registers .waiting) c
-
-  abbrev pub before : Registers
-  before = latched (m .registers) (c .input) (c .pins)
-
   -- a refused cycle changes nothing
-  refused-by : (j : Judgement) (k : ℕ) → turnOf j m before c .answer ≡ refused k → turnOf j m before c .machine ≡ m
-  refused-by (Refuse j) k e = refl
-  refused-by Wait k e = absurd (accepted-refused _ k e)
-  refused-by (Perform n p immediate) k e = absurd (accepted-refused _ k e)
-
   pub refused-unchanged : (k : ℕ) → cycleOf m c .answer ≡ refused k → cycleOf m c .machine ≡ m
-  unfolding cycleOf
-  refused-unchanged k e = refused-by judgement k e
+  refused-unchanged k = every-way m c (λ (t : Turned). t .answer ≡ refused k → t .machine ≡ m) (record {
+    refuses = λ j e. refl;
+    waits = λ x i e. absurd (accepted-refused _ k e);
+    performs = λ e. absurd (accepted-refused _ k e);
+  })
 
   -- an answer that has a report is an accepted one
-  reported-by : (j : Judgement) (r : Report) → turnOf j m before c .answer .value ≡ some r → turnOf j m before c .answer ≡ accepted r
-  reported-by (Refuse k) r e = absurd (Option·some-ne-none r (sym e))
-  reported-by Wait r e = ap accepted (Option·some-injective _ r e)
-  reported-by (Perform n p immediate) r e = ap accepted (Option·some-injective _ r e)
-
   pub reported-accepted : (r : Report) → cycleOf m c .answer .value ≡ some r → cycleOf m c .answer ≡ accepted r
-  unfolding cycleOf
-  reported-accepted r e = reported-by judgement r e
+  reported-accepted r = every-way m c (λ (t : Turned). t .answer .value ≡ some r → t .answer ≡ accepted r) (record {
+    refuses = λ k e. absurd (Option·some-ne-none r (sym e));
+    waits = λ x i e. ap accepted (Option·some-injective _ r e);
+    performs = λ e. ap accepted (Option·some-injective _ r e);
+  })
 
-  -- a first immediate cycle changes only the waiting word, and D by DLE
-  pub wait-changes : judgement ≡ Wait → cycleOf m c .machine ≡ machineOf (withWaiting before (Held (c .lines)))
-  unfolding cycleOf
-  wait-changes e = ap (λ (j : Judgement). turnOf j m before c .machine) e
+  module _ (r : Report) where
+    -- a cycle that is accepted and completes nothing changes only the waiting word, and D by DLE
+    pub wait-changes : cycleOf m c .answer ≡ accepted r → r .completed ≡ NoInstruction → cycleOf m c .machine ≡ machineOf (withWaiting (before m c) (Held (c .lines)))
+    wait-changes = every-way m c (λ (t : Turned). t .answer ≡ accepted r → r .completed ≡ NoInstruction → t .machine ≡ machineOf (withWaiting (before m c) (Held (c .lines)))) (record {
+      refuses = λ k e. refused-has-none k r e;
+      waits = λ x i e z. refl;
+      performs = λ e z. absurd (completed-differ (told (λ (r : Report). r .completed) _ r e ∙ z));
+    })
 
--- how many words wait
-abbrev pub waitingWords : Waiting → ℕ
-waitingWords Nothing = 0
-waitingWords (Held w) = 1
+    -- an accepted cycle completes an instruction, or leaves a word waiting
+    pub completes-or-waits : cycleOf m c .answer ≡ accepted r → completions (r .completed) + waitingWords (cycleOf m c .machine .registers .waiting) ≡ 1
+    unfolding settledOf
+    completes-or-waits = every-way m c (λ (t : Turned). t .answer ≡ accepted r → completions (r .completed) + waitingWords (t .machine .registers .waiting) ≡ 1) (record {
+      refuses = λ k e. refused-has-none k r e;
+      waits = λ x i e. sym (told (λ (r : Report). completions (r .completed) + 1) _ r e);
+      performs = λ e. sym (told (λ (r : Report). completions (r .completed) + 0) _ r e);
+    })
 
-module _ (m : Machine) (c : Words) where
-  counts-by : (j : Judgement) (r : Report) → turnOf j m (before m c) c .answer ≡ accepted r
-      → completions (r .completed) + waitingWords (turnOf j m (before m c) c .machine .registers .waiting) ≡ 1
-  unfolding settledOf
-  counts-by (Refuse k) r e = absurd (accepted-refused r k (sym e))
-  counts-by Wait r e = ap (λ (r : Report). completions (r .completed) + 1) (sym (accepted-one _ r e))
-  counts-by (Perform n p immediate) r e = ap (λ (r : Report). completions (r .completed) + 0) (sym (accepted-one _ r e))
+    -- what it completes is the instruction of the word that it is about; with a word waiting it completes that word's
+    pub completes-its-own : cycleOf m c .answer ≡ accepted r
+        → (completions (r .completed) ≡ 1 → r .completed ≡ Instruction (named m c (m .registers .waiting)))
+    completes-its-own = every-way m c (λ (t : Turned). t .answer ≡ accepted r → completions (r .completed) ≡ 1 → r .completed ≡ Instruction (named m c (m .registers .waiting))) (record {
+      refuses = λ k e. refused-has-none k r e;
+      waits = λ x i e z.
+          let none : _≡_ {A = ℕ} 0 1 = told (λ (r : Report). completions (r .completed)) _ r e ∙ z in
+          absurd (omega (arith, none));
+      performs = λ e z. sym (told (λ (r : Report). r .completed) _ r e);
+    })
 
-  -- an accepted cycle completes an instruction, or leaves a word waiting
-  pub completes-or-waits : (r : Report) → cycleOf m c .answer ≡ accepted r
-      → completions (r .completed) + waitingWords (cycleOf m c .machine .registers .waiting) ≡ 1
-  unfolding cycleOf
-  completes-or-waits r e = counts-by (judgement m c) r e
+    pub waiting-completes : (w : ℕ) → m .registers .waiting ≡ Held w → cycleOf m c .answer ≡ accepted r → r .completed ≡ Instruction (namedBy w)
+    waiting-completes w h = every-way m c (λ (t : Turned). t .answer ≡ accepted r → r .completed ≡ Instruction (namedBy w)) (record {
+      refuses = λ k e. refused-has-none k r e;
+      waits = λ x i e. absurd (held-something (sym h ∙ x));
+      performs = λ e. sym (told (λ (r : Report). r .completed) _ r e) ∙ ap (λ (x : Waiting). Instruction (named m c x)) h;
+    })
+      where
+        held-something : Held w ≡ Nothing → ⊥
+        held-something q =
+            let one : _≡_ {A = ℕ} 1 0 = ap waitingWords q in
+            omega (arith, one)
 
--- what IEN and SRE keep from being written
-module _ (mode : Mode) (k : ℕ) (r : Registers) (e : Effect) (pins : ℕ) where
-  abbrev settled : Registers
-  settled = settledOf mode k r e pins
+    -- an accepted cycle leaves a machine that may start: a word that is left waiting is one that may wait
+    pub accepted-may-start : cycleOf m c .answer ≡ accepted r → mayStart (cycleOf m c .machine .registers .waiting) ≡ true
+    unfolding settledOf mayStart
+    accepted-may-start = every-way m c (λ (t : Turned). t .answer ≡ accepted r → mayStart (t .machine .registers .waiting) ≡ true) (record {
+      refuses = λ k e. refused-has-none k r e;
+      waits = λ x i e. i;
+      performs = λ e. refl;
+    })
 
-  ien-not-low : ienHigh pins ≡ true → bothLow pins ≡ false
-  ien-not-low h = ne-eqb (pins % 4) 0 (λ z. omega (arith, eqb-true (pins % 2) 1 h))
+  ien-not-low : ienHigh (c .pins) ≡ true → bothLow (c .pins) ≡ false
+  ien-not-low h = ne-eqb (c .pins % 4) 0 (λ z. omega (arith, eqb-true (c .pins % 2) 1 h))
 
-  -- IEN high: no RAM, ACC or status changes
-  pub ien-high-keeps : ienHigh pins ≡ true → (settled .ram ≡ r .ram) × (settled .acc ≡ r .acc) × (settled .status ≡ r .status)
-  unfolding settledOf
-  ien-high-keeps h = (
-    picked (ienHigh pins) (r .ram) (ramAfter (e .destination) mode k (e .result) (r .ram)) h,
-    picked (ienHigh pins) (r .acc) (accAfter (e .destination) mode (e .result) (r .acc)) h,
-    unpicked (bothLow pins) (e .status) (r .status) (ien-not-low h),
-  )
+  abbrev Kept : Turned → Type 0
+  Kept t = (t .machine .registers .ram ≡ m .registers .ram) × (t .machine .registers .acc ≡ m .registers .acc)
 
   -- IEN or SRE high: the status stays
-  pub status-kept : bothLow pins ≡ false → settled .status ≡ r .status
+  pub status-kept : bothLow (c .pins) ≡ false → cycleOf m c .machine .registers .status ≡ m .registers .status
   unfolding settledOf
-  status-kept h = unpicked (bothLow pins) (e .status) (r .status) h
+  status-kept h = every-way m c (λ (t : Turned). t .machine .registers .status ≡ m .registers .status) (record {
+    refuses = λ k. refl;
+    waits = λ x i. refl;
+    performs = unpicked (bothLow (c .pins)) _ (m .registers .status) h;
+  })
+
+  -- IEN high: no RAM, ACC or status changes
+  pub ien-high-keeps : ienHigh (c .pins) ≡ true
+      → (cycleOf m c .machine .registers .ram ≡ m .registers .ram)
+      × (cycleOf m c .machine .registers .acc ≡ m .registers .acc)
+      × (cycleOf m c .machine .registers .status ≡ m .registers .status)
+  unfolding settledOf
+  ien-high-keeps h =
+      let kept : Kept (cycleOf m c) = every-way m c Kept (record {
+        refuses = λ k. (refl, refl);
+        waits = λ x i. (refl, refl);
+        performs = (picked (ienHigh (c .pins)) (m .registers .ram) _ h, picked (ienHigh (c .pins)) (m .registers .acc) _ h);
+      }) in
+      (kept .0, kept .1, status-kept (ien-not-low h))
 
 -- what a turn tells fixes the turn
 answer-one : (a b : Answer) → answerTells a ≡ answerTells b → a ≡ b

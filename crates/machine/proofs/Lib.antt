@@ -1,3 +1,4 @@
+pub mod Ways
 pub mod Decided
 pub mod Laws
 pub mod Seen

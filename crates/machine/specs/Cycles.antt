@@ -2,10 +2,13 @@
 use Prim.Native.Nat.{ℕ}
 use Rattle.choice.specs.Pick.{pick}
 use Rattle.choice.specs.Tells.{Tells, accepted, refused}
+use Rattle.alu.specs.declared.Mode.{Mode}
+use Rattle.alu.specs.declared.Outcome.{Outcome}
 use Rattle.isa.specs.declared.Named.{Named}
 use Rattle.plan.specs.declared.Chooser.the-variants.{Pins}
+use Rattle.plan.specs.declared.Destination.{Destination}
 use Rattle.plan.specs.declared.Plan.{Plan}
-use Rattle.machine.specs.declared.Waiting.the-variants.{Held}
+use Rattle.machine.specs.declared.Waiting.the-variants.{Nothing, Held}
 use Rattle.machine.specs.declared.Registers.{Registers}
 use Rattle.machine.specs.declared.Machine.{Machine}
 use Rattle.machine.specs.declared.Words.{Words}
@@ -18,8 +21,8 @@ use Rattle.machine.specs.declared.Effect.{Effect}
 use Rattle.machine.specs.Pins.{oeYHigh}
 use Rattle.machine.specs.Judging.{Judgement, Refuse, Wait, Perform, judgementOf}
 use Rattle.machine.specs.Seeing.{viewOf}
-use Rattle.machine.specs.Acting.{effectOf}
-use Rattle.machine.specs.Settling.{latched, withWaiting, settledOf}
+use Rattle.machine.specs.Acting.{statusFor, effectOf}
+use Rattle.machine.specs.Settling.{latched, withWaiting, ramAfter, accAfter, settledOf}
 use Rattle.machine.specs.Reporting.{ctOf, tOf}
 
 -- what a cycle leaves and tells: the machine after it, and a report or the number of the refusal
@@ -88,3 +91,14 @@ turnTells t = record { machine = t .machine; answer = answerTells (t .answer) }
 abbrev pub completions : Completed → ℕ
 completions NoInstruction = 0
 completions (Instruction n) = 1
+
+-- IEN and SRE low: the destination and the status take what an operation gives, D stays, and nothing waits (document 01, the machine and one
+-- cycle). For the laws that spell a cycle out
+abbrev pub written : Mode → ℕ → Registers → Destination → Outcome → Registers
+written mode k r d o = record {
+  ram = ramAfter d mode k (o .result) (r .ram);
+  acc = accAfter d mode (o .result) (r .acc);
+  latch = r .latch;
+  status = statusFor d mode o (r .status);
+  waiting = Nothing;
+}

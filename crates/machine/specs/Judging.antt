@@ -1,5 +1,6 @@
 -- Whether a cycle is refused, waits, or performs an instruction (document 01, the machine and one cycle; runs, blocks and refusal numbers).
 -- No register but the waiting word is looked at.
+use mathlib.Core.Path.{_≡_}
 use Prim.Native.Nat.{ℕ}
 use mathlib.Core.Bool.{Bool, true, false, not}
 use mathlib.Core.List.{List, [], _∷_}
@@ -46,6 +47,16 @@ abbrev pub wordAbout : Waiting → ℕ → ℕ
 wordAbout Nothing lines = lines
 wordAbout (Held w) lines = w
 
+-- the I operand of a cycle: its lines, where a word waits. An instruction that is performed at once has none, and 0 stands for it
+abbrev pub operandAbout : Waiting → ℕ → ℕ
+operandAbout Nothing lines = 0
+operandAbout (Held w) lines = lines
+
+-- how many words wait
+abbrev pub waitingWords : Waiting → ℕ
+waitingWords Nothing = 0
+waitingWords (Held w) = 1
+
 -- an instruction is performed by its plan
 abbrev pub perform : Named → ℕ → Judgement
 perform n immediate = Perform n (planOf n) immediate
@@ -65,3 +76,10 @@ judgementOf w c = judged (refusal (checksOf w c)) (acceptedAs w c)
 unfoldable pub mayStart : Waiting → Bool
 mayStart Nothing = true
 mayStart (Held w) = takesImmediate w
+
+-- for a law: a number that neither the pins nor IEN give, with nothing waiting; it is decoding's own, 7, 8 or 9
+pub record OfWord (k : ℕ) : Type 0 where
+  pub not-0 : k ≡ 0 → ⊥
+  pub not-5 : k ≡ 5 → ⊥
+  pub not-6 : k ≡ 6 → ⊥
+  pub not-10 : k ≡ 10 → ⊥
