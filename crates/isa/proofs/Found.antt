@@ -126,7 +126,7 @@ module _ (mark q a b c : ℕ) where
       one-row (rowOf mark q a b c) i mark a b c (u .listed) (t .listed) (u .quadrant ∙ sym (t .quadrant)) (u .fields) (t .fields)
 
 -- row i takes a word
-abbrev TakesWord : ℕ → ℕ → Type 0
+abbrev pub TakesWord : ℕ → ℕ → Type 0
 TakesWord w i = Belongs (markOf w) (quadrantOf w) (fieldA w) (fieldB w) (fieldC w) i
 
 apart : (i : ℕ) → i < noRow → noRow ≤ i → ⊥

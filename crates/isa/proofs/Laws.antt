@@ -2,7 +2,7 @@
 -- holds, and one answer to each call.
 use mathlib.Core.Path.{_≡_, refl, _∙_, sym, ap, subst}
 use mathlib.Core.Bool.{Bool, true, false, not}
-use mathlib.Core.List.{[], _∷_, _++_}
+use mathlib.Core.List.{List, [], _∷_}
 use mathlib.Core.Logic.{_↔_, _⊎_, inl, inr}
 use Prim.Native.Nat.{ℕ, _<_, _≤_}
 use native.Mathlib.Omega.{arith}
@@ -12,8 +12,9 @@ use borrow.Author.Tests.{eqb-true, eqb-false, leb-false, leb-true, not-true, not
 use Rattle.alu.specs.declared.Mode.{Mode}
 use Rattle.alu.specs.declared.Mode.the-variants.{Byte, Word}
 use Rattle.choice.specs.Pick.{pick}
-use Rattle.choice.specs.Checks.{check, refusal, clear}
+use Rattle.choice.specs.Checks.{Check, check, refusal, clear}
 use Rattle.choice.specs.Tells.{Tells, accepted, refused, tells}
+use Rattle.choice.proofs.Spans.{never}
 use Rattle.choice.proofs.Checks.{positive, exactly, cleared}
 use Rattle.choice.proofs.Tells.{accepted-one, refused-one, accepted-refused, told-accepted, told-number}
 use Rattle.isa.specs.declared.Family.{Family}
@@ -25,24 +26,26 @@ use Rattle.isa.specs.declared.Encoded.{Encoded}
 use Rattle.isa.specs.Fields.{markOf, quadrantOf, fieldA, fieldB, fieldC, wordOf, modeOf, markFor}
 use Rattle.isa.specs.Table.{rowAt, noRow, numberOf}
 use Rattle.isa.specs.Slots.{takes, rowOf}
-use Rattle.isa.specs.Words.{accTwice, bitTooHigh, ruleChecks, wordNumber, wordRow, unlistedWord, wordChecks, namedBy, decodeOf, lookupOf, decodedTells, namedRow, unlistedNamed, namedChecks, wordFor, encodeOf, encodedTells, takesImmediate}
+use Rattle.isa.specs.Words.{InFamily, accTwice, bitTooHigh, ruleChecks, wordNumber, wordRow, wordChecks, namedBy, decodeOf, lookupOf, decodedTells, namedRow, namedChecks, wordFor, encodeOf, encodedTells, takesImmediate}
 use Rattle.isa.specs.Decision.{fillOf}
 use Rattle.isa.proofs.Families.{own-row, own-number, narrow, mark-small}
 use Rattle.isa.proofs.Takes.{small}
 use Rattle.isa.proofs.Answers.{answerAt, answer-accepted, decoded, fill-accepted}
-use Rattle.isa.proofs.Found.{Belongs, row-belongs, belongs-row}
+use Rattle.isa.proofs.Found.{Belongs, TakesWord, row-belongs, belongs-row}
 
--- A family takes a word: the word's quadrant is the family's, and its row has the word's mode and fields.
-abbrev pub InFamily : Family → ℕ → Type 0
-InFamily f w = Belongs (markOf w) (quadrantOf w) (fieldA w) (fieldB w) (fieldC w) (numberOf f)
+-- the row of a family that takes a word is the word's
+number-in : (f : Family) (w : ℕ) → InFamily f w → wordNumber w ≡ numberOf f
+number-in f w t =
+    belongs-row (markOf w) (quadrantOf w) (fieldA w) (fieldB w) (fieldC w) (numberOf f)
+    (record { listed = own-row f .0; quadrant = t .quadrant; fields = t .fields })
+
+-- and its family is the word's
+pub family-in : (f : Family) (w : ℕ) → InFamily f w → wordRow w .family ≡ f
+family-in f w t = ap (λ (i : ℕ). rowAt i .family) (number-in f w t) ∙ own-row f .1
 
 -- at most one family takes a word
 pub one-family : (f g : Family) (w : ℕ) → InFamily f w → InFamily g w → f ≡ g
-one-family f g w t u =
-    sym (own-row f .1)
-    ∙ ap (λ (i : ℕ). rowAt i .family)
-    (sym (belongs-row (markOf w) (quadrantOf w) (fieldA w) (fieldB w) (fieldC w) (numberOf f) t) ∙ belongs-row (markOf w) (quadrantOf w) (fieldA w) (fieldB w) (fieldC w) (numberOf g) u)
-    ∙ own-row g .1
+one-family f g w t u = sym (family-in f w t) ∙ family-in g w u
 
 -- the fields of a word that is made of fields, and the word made of a word's fields
 module _ (mark q a b c : ℕ) (h : (mark < 2) × (q < 4) × (a < 16) × (b < 16) × (c < 32)) where
@@ -78,7 +81,7 @@ module _ (w : ℕ) (h : w < 0x10000) (n : Named) (e : decodeOf w ≡ accepted n)
   free : (leb noRow (wordNumber w) ≡ false) × (refusal (ruleChecks (wordRow w) (markOf w) (fieldA w) (fieldB w)) ≡ 0)
   free = cleared 7 (leb noRow (wordNumber w)) (ruleChecks (wordRow w) (markOf w) (fieldA w) (fieldB w)) (λ z. omega arith) (told .0)
 
-  own : Belongs (markOf w) (quadrantOf w) (fieldA w) (fieldB w) (fieldC w) (wordNumber w)
+  own : TakesWord w (wordNumber w)
   own = row-belongs (markOf w) (quadrantOf w) (fieldA w) (fieldB w) (fieldC w) (leb-false noRow (wordNumber w) (free .0))
 
   -- the instruction has the word's fields
@@ -172,73 +175,136 @@ named-answered n =
 exactly-told : {A : Type 0} (k j : ℕ) (x : A) {P : Type 0} → (j ≡ k) ↔ P → (tells j x .number ≡ k) ↔ P
 exactly-told k j x h = rw (told-number j x) h
 
+-- no check of a list holds: its first does not, and none of the rest
+none-holds : (k : ℕ) (b : Bool) (xs : List Check) → T (clear (check k b ∷ xs)) ↔ ((b ≡ false) × T (clear xs))
+none-holds k true xs = (λ t. absurd t, λ h. absurd (never (sym (h .0))))
+none-holds k false xs = (λ t. (refl, t), λ h. h .1)
+
+-- 7, 8 and 9, of words and named instructions alike, by their conditions
+module _ (seven eight nine : Bool) where
+  abbrev checks : List Check
+  checks = check 7 seven ∷ check 8 eight ∷ check 9 nine ∷ []
+
+  by-seven : (refusal checks ≡ 7) ↔ (seven ≡ true)
+  by-seven =
+      let e = exactly 7 seven (check 8 eight ∷ check 9 nine ∷ []) (positive 7 tt) tt [] tt in
+      (λ h. e .0 h .1, λ h. e .1 (tt, h))
+
+  by-eight : (refusal checks ≡ 8) ↔ ((seven ≡ false) × (eight ≡ true))
+  by-eight =
+      let e = exactly 8 eight (check 9 nine ∷ []) (positive 8 tt) tt (check 7 seven ∷ []) tt in
+      let one = none-holds 7 seven [] in
+      (λ h. (one .0 (e .0 h .0) .0, e .0 h .1), λ h. e .1 (one .1 (h .0, tt), h .1))
+
+  by-nine : (refusal checks ≡ 9) ↔ ((seven ≡ false) × (eight ≡ false) × (nine ≡ true))
+  by-nine =
+      let e = exactly 9 nine [] (positive 9 tt) tt (check 7 seven ∷ check 8 eight ∷ []) tt in
+      let two = none-holds 7 seven (check 8 eight ∷ []) in
+      let one = none-holds 8 eight [] in
+      (λ h. (two .0 (e .0 h .0) .0, one .0 (two .0 (e .0 h .0) .1) .0, e .0 h .1), λ h. e .1 (two .1 (h .0, one .1 (h .1, tt)), h .2))
+
 past-all : (i j n : ℕ) → i ≡ j → n ≤ i → j < n → ⊥
 past-all i j n e l h = omega arith
 
 -- a word gets 7, 8 or 9 exactly when its condition holds and no earlier one does
 module _ (w : ℕ) where
-  listed-in : wordNumber w < noRow → InFamily (wordRow w .family) w
-  listed-in h =
-      subst (λ (i : ℕ). Belongs (markOf w) (quadrantOf w) (fieldA w) (fieldB w) (fieldC w) i) (sym (own-number (wordNumber w) h))
-      (row-belongs (markOf w) (quadrantOf w) (fieldA w) (fieldB w) (fieldC w) h)
+  -- a listed word is taken by its row's family, whose row is that row, and by no other
+  in-own : leb noRow (wordNumber w) ≡ false → InFamily (wordRow w .family) w
+  in-own e =
+      let h = leb-false noRow (wordNumber w) e in
+      let own = subst (λ (i : ℕ). TakesWord w i) (sym (own-number (wordNumber w) h)) (row-belongs (markOf w) (quadrantOf w) (fieldA w) (fieldB w) (fieldC w) h) in
+      record { quadrant = own .quadrant; fields = own .fields }
 
-  unlisted-all : leb noRow (wordNumber w) ≡ true → (f : Family) → InFamily f w → ⊥
-  unlisted-all e f t =
-      past-all (wordNumber w) (numberOf f) noRow (belongs-row (markOf w) (quadrantOf w) (fieldA w) (fieldB w) (fieldC w) (numberOf f) t)
-      (leb-true noRow (wordNumber w) e) (own-row f .0)
+  own-family : (P : Row → Type 0) → leb noRow (wordNumber w) ≡ false → P (wordRow w) → P (rowAt (numberOf (wordRow w .family)))
+  own-family P e = subst (λ (i : ℕ). P (rowAt i)) (sym (own-number (wordNumber w) (leb-false noRow (wordNumber w) e)))
+
+  family-own : (P : Row → Type 0) (f : Family) → InFamily f w → P (rowAt (numberOf f)) → P (wordRow w)
+  family-own P f t = subst (λ (i : ℕ). P (rowAt i)) (sym (number-in f w t))
+
+  taken-listed : (f : Family) → InFamily f w → leb noRow (wordNumber w) ≡ false
+  taken-listed f t = by-test (leb noRow (wordNumber w)) refl
+    where
+      by-test : (b : Bool) → leb noRow (wordNumber w) ≡ b → b ≡ false
+      by-test true q = absurd (past-all (wordNumber w) (numberOf f) noRow (number-in f w t) (leb-true noRow (wordNumber w) q) (own-row f .0))
+      by-test false q = refl
 
   all-unlisted : ((f : Family) → InFamily f w → ⊥) → leb noRow (wordNumber w) ≡ true
   all-unlisted n = by-test (leb noRow (wordNumber w)) refl
     where
       by-test : (b : Bool) → leb noRow (wordNumber w) ≡ b → b ≡ true
       by-test true q = refl
-      by-test false q = absurd (n (wordRow w .family) (listed-in (leb-false noRow (wordNumber w) q)))
+      by-test false q = absurd (n (wordRow w .family) (in-own q))
+
+  abbrev unlisted : Bool
+  unlisted = leb noRow (wordNumber w)
+
+  abbrev twice : Row → Bool
+  twice r = accTwice r (fieldA w) (fieldB w)
+
+  abbrev high : Row → Bool
+  high r = bitTooHigh r (markOf w) (fieldA w)
 
   -- 7: no family takes the word
   pub word-seven : (decodeOf w .number ≡ 7) ↔ ((f : Family) → InFamily f w → ⊥)
   unfolding decodeOf
   word-seven =
-      let e = exactly 7 (leb noRow (wordNumber w)) (ruleChecks (wordRow w) (markOf w) (fieldA w) (fieldB w)) (positive 7 tt) tt [] tt in
-      exactly-told 7 (refusal (wordChecks w)) (namedBy w) (λ h. unlisted-all (e .0 h .1), λ n. e .1 (tt, all-unlisted n))
+      let e = by-seven unlisted (twice (wordRow w)) (high (wordRow w)) in
+      exactly-told 7 (refusal (wordChecks w)) (namedBy w) (λ h f t. never (sym (taken-listed f t) ∙ e .0 h), λ n. e .1 (all-unlisted n))
 
   -- 8: a family takes it, and its rule about ACC is broken
-  pub word-eight : (decodeOf w .number ≡ 8) ↔ (T (clear (unlistedWord w)) × (accTwice (wordRow w) (fieldA w) (fieldB w) ≡ true))
+  pub word-eight : (decodeOf w .number ≡ 8) ↔ ((f : Family) × InFamily f w × (accTwice (rowAt (numberOf f)) (fieldA w) (fieldB w) ≡ true))
   unfolding decodeOf
   word-eight =
-      exactly-told 8 (refusal (wordChecks w)) (namedBy w)
-      (exactly 8 (accTwice (wordRow w) (fieldA w) (fieldB w)) (check 9 (bitTooHigh (wordRow w) (markOf w) (fieldA w)) ∷ []) (positive 8 tt) tt (unlistedWord w) tt)
+      let e = by-eight unlisted (twice (wordRow w)) (high (wordRow w)) in
+      exactly-told 8 (refusal (wordChecks w)) (namedBy w) (
+        λ h. (wordRow w .family, in-own (e .0 h .0), own-family (λ r. twice r ≡ true) (e .0 h .0) (e .0 h .1)),
+        λ b. e .1 (taken-listed (b .0) (b .1), family-own (λ r. twice r ≡ true) (b .0) (b .1) (b .2)),
+      )
 
   -- 9: a family takes it, the rule about ACC is not broken, and the one about n is
   pub word-nine : (decodeOf w .number ≡ 9)
-      ↔ (T (clear (unlistedWord w ++ check 8 (accTwice (wordRow w) (fieldA w) (fieldB w)) ∷ [])) × (bitTooHigh (wordRow w) (markOf w) (fieldA w) ≡ true))
+      ↔ ((f : Family) × InFamily f w × (accTwice (rowAt (numberOf f)) (fieldA w) (fieldB w) ≡ false) × (bitTooHigh (rowAt (numberOf f)) (markOf w) (fieldA w) ≡ true))
   unfolding decodeOf
   word-nine =
-      exactly-told 9 (refusal (wordChecks w)) (namedBy w)
-      (exactly 9 (bitTooHigh (wordRow w) (markOf w) (fieldA w)) [] (positive 9 tt) tt (unlistedWord w ++ check 8 (accTwice (wordRow w) (fieldA w) (fieldB w)) ∷ []) tt)
+      let e = by-nine unlisted (twice (wordRow w)) (high (wordRow w)) in
+      exactly-told 9 (refusal (wordChecks w)) (namedBy w) (
+        λ h. (wordRow w .family, in-own (e .0 h .0), own-family (λ r. twice r ≡ false) (e .0 h .0) (e .0 h .1), own-family (λ r. high r ≡ true) (e .0 h .0) (e .0 h .2)),
+        λ b. e .1 (taken-listed (b .0) (b .1), family-own (λ r. twice r ≡ false) (b .0) (b .1) (b .2), family-own (λ r. high r ≡ true) (b .0) (b .1) (b .3)),
+      )
 
 -- and so does a named instruction
 module _ (n : Named) where
+  abbrev listed : Bool
+  listed = takes (namedRow n) (markFor (n .mode)) (n .a) (n .b) (n .c)
+
+  abbrev acc : Bool
+  acc = accTwice (namedRow n) (n .a) (n .b)
+
+  abbrev bit : Bool
+  bit = bitTooHigh (namedRow n) (markFor (n .mode)) (n .a)
+
   -- 7: its family does not take its mode and fields
   pub named-seven : (encodeOf n .number ≡ 7) ↔ (takes (namedRow n) (markFor (n .mode)) (n .a) (n .b) (n .c) ≡ false)
   unfolding encodeOf
   named-seven =
-      let t = takes (namedRow n) (markFor (n .mode)) (n .a) (n .b) (n .c) in
-      let e = exactly 7 (not t) (ruleChecks (namedRow n) (markFor (n .mode)) (n .a) (n .b)) (positive 7 tt) tt [] tt in
-      exactly-told 7 (refusal (namedChecks n)) (wordFor n) (λ h. not-true t (e .0 h .1), λ h. e .1 (tt, ap not h))
+      let e = by-seven (not listed) acc bit in
+      exactly-told 7 (refusal (namedChecks n)) (wordFor n) (λ h. not-true listed (e .0 h), λ h. e .1 (ap not h))
 
-  -- 8 and 9: it takes them, and breaks its rule
-  pub named-eight : (encodeOf n .number ≡ 8) ↔ (T (clear (unlistedNamed n)) × (accTwice (namedRow n) (n .a) (n .b) ≡ true))
+  -- 8: its family takes them, and its rule about ACC is broken
+  pub named-eight : (encodeOf n .number ≡ 8)
+      ↔ ((takes (namedRow n) (markFor (n .mode)) (n .a) (n .b) (n .c) ≡ true) × (accTwice (namedRow n) (n .a) (n .b) ≡ true))
   unfolding encodeOf
   named-eight =
-      exactly-told 8 (refusal (namedChecks n)) (wordFor n)
-      (exactly 8 (accTwice (namedRow n) (n .a) (n .b)) (check 9 (bitTooHigh (namedRow n) (markFor (n .mode)) (n .a)) ∷ []) (positive 8 tt) tt (unlistedNamed n) tt)
+      let e = by-eight (not listed) acc bit in
+      exactly-told 8 (refusal (namedChecks n)) (wordFor n) (λ h. (not-false listed (e .0 h .0), e .0 h .1), λ h. e .1 (ap not (h .0), h .1))
 
+  -- 9: its family takes them, the rule about ACC is not broken, and the one about n is
   pub named-nine : (encodeOf n .number ≡ 9)
-      ↔ (T (clear (unlistedNamed n ++ check 8 (accTwice (namedRow n) (n .a) (n .b)) ∷ [])) × (bitTooHigh (namedRow n) (markFor (n .mode)) (n .a) ≡ true))
+      ↔ ((takes (namedRow n) (markFor (n .mode)) (n .a) (n .b) (n .c) ≡ true) × (accTwice (namedRow n) (n .a) (n .b) ≡ false) × (bitTooHigh (namedRow n) (markFor (n .mode)) (n .a) ≡ true))
   unfolding encodeOf
   named-nine =
-      exactly-told 9 (refusal (namedChecks n)) (wordFor n)
-      (exactly 9 (bitTooHigh (namedRow n) (markFor (n .mode)) (n .a)) [] (positive 9 tt) tt (unlistedNamed n ++ check 8 (accTwice (namedRow n) (n .a) (n .b)) ∷ []) tt)
+      let e = by-nine (not listed) acc bit in
+      exactly-told 9 (refusal (namedChecks n)) (wordFor n) (λ h. (not-false listed (e .0 h .0), e .0 h .1, e .0 h .2), λ h. e .1 (ap not (h .0), h .1, h .2))
 
 -- what an answer tells fixes the answer
 decoded-one : (r s : Decoded) → decodedTells r ≡ decodedTells s → r ≡ s

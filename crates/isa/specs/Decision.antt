@@ -1,5 +1,5 @@
--- What the parts of decoder and encoder, and of `takes_immediate`, answer, for their contracts: document 01's rules stand in Table, Slots and
--- Words. The decision over quadrant, A and B answers a slot by the number of its first row.
+-- For the contracts of private parts of decoder and encoder alone: nobody needs this file to know what a word means, which Table, Slots and Words
+-- say. The decision over quadrant, A and B answers a slot by the number of its first row.
 use Prim.Native.Nat.{ℕ, _<_, _≤_}
 use mathlib.Core.List.{List, [], _∷_}
 use mathlib.Core.Path.{_≡_}

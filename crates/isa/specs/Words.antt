@@ -1,5 +1,6 @@
 -- Words and named instructions: what decoding and encoding tell (document 01, the instruction list and the refusal numbers).
 use Prim.Native.Nat.{ℕ, _+_}
+use mathlib.Core.Path.{_≡_}
 use mathlib.Core.Bool.{Bool, true, false, not}
 use mathlib.Core.List.{List, [], _∷_, _++_}
 use mathlib.Core.Option.{Option, none, some}
@@ -7,6 +8,7 @@ use lib.Dec.{eqb, leb, ltb}
 use Rattle.choice.specs.Pick.{pick}
 use Rattle.choice.specs.Checks.{Check, check, refusal}
 use Rattle.choice.specs.Tells.{Tells, accepted, refused, tells}
+use Rattle.isa.specs.declared.Family.{Family}
 use Rattle.isa.specs.declared.Row.{Row}
 use Rattle.isa.specs.declared.Named.{Named}
 use Rattle.isa.specs.declared.Lookup.{Lookup}
@@ -16,6 +18,12 @@ use Rattle.isa.specs.Fields.{markOf, quadrantOf, fieldA, fieldB, fieldC,
 use Rattle.isa.specs.Sets.{has}
 use Rattle.isa.specs.Table.{rowAt, noRow, numberOf, oneAcc, bitInMode}
 use Rattle.isa.specs.Slots.{takes, rowOf}
+
+-- a family takes a word (document 01, the instruction list): the word has the quadrant of the family's row, and a mode and fields that the row
+-- takes. What 7, 8 and 9 mean for a word is said with it
+pub record InFamily (f : Family) (w : ℕ) : Type 0 where
+  pub quadrant : rowAt (numberOf f) .quadrant ≡ quadrantOf w
+  pub fields : takes (rowAt (numberOf f)) (markOf w) (fieldA w) (fieldB w) (fieldC w) ≡ true
 
 -- 8: prioritize with ACC as source (B 4) and as mask (A 8)
 abbrev pub accTwice : Row → ℕ → ℕ → Bool
