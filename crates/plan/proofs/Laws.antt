@@ -17,9 +17,8 @@ use Rattle.isa.specs.declared.Family.the-variants.{Tor1, Rotr1, Rotr2, Rotc, Ro
 use Rattle.isa.specs.declared.Named.{Named}
 use Rattle.isa.specs.declared.Row.{Row}
 use Rattle.isa.specs.Fields.{modeOf, markOf, markFor}
-use Rattle.isa.specs.Sets.{has, these}
+use Rattle.isa.specs.Sets.{has}
 use Rattle.isa.specs.Table.{rowAt, numberOf}
-use Rattle.isa.specs.Slots.{takes}
 use Rattle.isa.specs.Words.{namedRow, accTwice, bitTooHigh, asksI, namesI as wordNamesI, decodeOf, encodeOf, takesImmediate}
 use native.Mathlib.Omega.{arith}
 use Rattle.isa.proofs.Laws.{encode-decode, encode-takes, encode-rule, decode-named}
@@ -34,37 +33,8 @@ use Rattle.plan.specs.Numbers.{sameSource, sameDestination}
 use Rattle.plan.specs.Tables.{back}
 use Rattle.plan.specs.Plans.{workOf, planOf}
 use Rattle.plan.specs.Reading.{namesI, writesRam}
+use Rattle.plan.specs.Listed.{Listed, toRam}
 use Rattle.plan.proofs.Sound.{destination-sound}
-
--- what document 01 sends to RAM, by fields A and B
-abbrev pub toRam : Family → ℕ → ℕ → Bool
-toRam Tor1 a b = has (these (12 ∷ 14 ∷ 15 ∷ [])) a
-toRam Rotr1 a b = has (these (15 ∷ [])) b
-toRam Rotr2 a b = true
-toRam Rotc a b = false
-toRam Rotm a b = has (these (9 ∷ 10 ∷ 12 ∷ [])) b
-toRam Sor a b = has (these (4 ∷ 6 ∷ 7 ∷ 8 ∷ 9 ∷ 10 ∷ 11 ∷ [])) b
-toRam Bor2 a b = true
-toRam Tor2 a b = true
-toRam Shftr a b = true
-toRam Crcf a b = true
-toRam Crcr a b = true
-toRam Prt1 a b = has (these (11 ∷ [])) a
-toRam Prt2 a b = false
-toRam Prt3 a b = true
-toRam Svstr a b = true
-toRam Sonr a b = false
-toRam Tonr a b = false
-toRam Shftnr a b = false
-toRam Bor1 a b = has (these (13 ∷ 14 ∷ [])) b
-toRam Bonr a b = false
-toRam Rotnr a b = false
-toRam Prtnr a b = false
-toRam Svstnr a b = false
-toRam Setst a b = false
-toRam Rstst a b = false
-toRam Test a b = false
-toRam Noop a b = false
 
 abbrev isMerge : Task → Bool
 isMerge NoOperation = false
@@ -174,10 +144,6 @@ all-good Setst a b c h = over-at Setst (λ a b. good Setst a b (workOf Setst a b
 all-good Rstst a b c h = over-at Rstst (λ a b. good Rstst a b (workOf Rstst a b c)) tt a b c h
 all-good Test a b c h = over-at Test (λ a b. good Test a b (workOf Test a b c)) tt a b c h
 all-good Noop a b c h = over-at Noop (λ a b. good Noop a b (workOf Noop a b c)) tt a b c h
-
--- an instruction of the list, which its family takes
-abbrev pub Listed : Named → Type 0
-Listed n = takes (namedRow n) (markFor (n .mode)) (n .a) (n .b) (n .c) ≡ true
 
 module _ (n : Named) (listed : Listed n) where
   abbrev row : Row

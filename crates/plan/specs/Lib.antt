@@ -1,4 +1,5 @@
 pub mod Tables
 pub mod Plans
 pub mod Reading
+pub mod Listed
 pub mod Numbers

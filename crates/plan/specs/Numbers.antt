@@ -1,4 +1,5 @@
--- A number for each variant of the small enums, by which the contracts of the tables tell two of them apart. The numbers mean nothing else.
+-- For the contracts of private parts alone: a number for each variant of the small enums, by which the tables' contracts tell two of them apart.
+-- Nobody needs this file to know what an instruction asks for, and the numbers mean nothing else.
 use mathlib.Core.Bool.{Bool}
 use Prim.Native.Nat.{ℕ}
 use lib.Dec.{eqb}
