@@ -1,12 +1,18 @@
 -- What a cycle keeps. About a word with the byte mark: every upper byte (`byte-keeps-ram`, `byte-keeps-acc`). About Test and NOOP: every
 -- register but D, which DLE may latch (`family-test`, `family-noop`).
-use mathlib.Core.Path.{_≡_, refl, _∙_, ap}
+use mathlib.Core.Path.{_≡_, refl, _∙_, sym, ap}
 use mathlib.Core.Bool.{Bool, true, false}
 use mathlib.Core.List.{List, map}
-use Prim.Native.Nat.{ℕ, _/_, _%_}
+use Prim.Native.Nat.{ℕ, _+_, _/_, _%_, _^_}
+use native.Mathlib.Nat.{zero-div}
+use lib.Dec.{eqb}
 use lib.ListN.{getD}
 use lib.Seq.{map-set-same}
 use Rattle.choice.specs.Pick.{pick}
+use Rattle.choice.specs.Checks.{refusal}
+use Rattle.choice.specs.Tells.{accepted, refused}
+use Rattle.choice.proofs.Spans.{never}
+use Rattle.choice.proofs.Tells.{accepted-refused}
 use Rattle.alu.specs.declared.Mode.{Mode}
 use Rattle.alu.specs.declared.Mode.the-variants.{Byte}
 use Rattle.alu.specs.Width.{writeBack}
@@ -21,8 +27,13 @@ use Rattle.plan.specs.Plans.{idle, workOf, planOf}
 use Rattle.isa.specs.declared.Family.{Family}
 use Rattle.isa.specs.declared.Family.the-variants.{Test, Noop}
 use Rattle.isa.specs.declared.Named.{Named}
-use Rattle.isa.specs.Fields.{markOf, modeOf}
+use Rattle.isa.specs.Fields.{markOf, fieldA, fieldB, fieldC, modeOf}
+use Rattle.isa.specs.Table.{rowAt, numberOf}
+use Rattle.isa.specs.Words.{InFamily, wordChecks, namedBy, decodeOf, asksI, namesI, takesImmediate}
+use Rattle.isa.proofs.Laws.{family-in}
+use Rattle.machine.specs.declared.Waiting.{Waiting}
 use Rattle.machine.specs.declared.Waiting.the-variants.{Nothing}
+use Rattle.machine.specs.declared.Report.{Report}
 use Rattle.machine.specs.declared.Registers.{Registers}
 use Rattle.machine.specs.declared.Machine.{Machine}
 use Rattle.machine.specs.declared.Words.{Words}
@@ -31,9 +42,9 @@ use Rattle.machine.specs.Pins.{ienHigh, bothLow}
 use Rattle.machine.specs.Seeing.{viewOf}
 use Rattle.machine.specs.Acting.{outcomeFor, effectOf}
 use Rattle.machine.specs.Settling.{withWaiting, upperByte, ramAfter, accAfter, settledOf}
-use Rattle.machine.specs.Judging.{wordAbout, operandAbout}
-use Rattle.machine.specs.Cycles.{Turned, effectFrom, cycleOf}
-use Rattle.machine.proofs.Ways.{before, named, every-way}
+use Rattle.machine.specs.Judging.{wordAbout}
+use Rattle.machine.specs.Cycles.{Turned, machineOf, effectFrom, cycleOf, before, instructionWord, operandWord}
+use Rattle.machine.proofs.Ways.{every-way}
 
 ram-upper : (d : Destination) (k y : ℕ) (ram : List ℕ) → map upperByte (ramAfter d Byte k y ram) ≡ map upperByte ram
 ram-upper ToY k y ram = refl
@@ -69,9 +80,9 @@ module _ (k : ℕ) (r : Registers) (e : Effect) (pins : ℕ) where
       by-test false = acc-upper (e .destination) (e .result) (r .acc)
 
 -- a cycle about a word with the byte mark keeps the upper byte of every RAM word and of ACC
-module _ (m : Machine) (c : Words) (mark : markOf (wordAbout (m .registers .waiting) (c .lines)) ≡ 0) where
+module _ (m : Machine) (c : Words) (mark : markOf (instructionWord m c) ≡ 0) where
   -- the instruction's mode is byte
-  byte : planOf (named m c (m .registers .waiting)) .mode ≡ Byte
+  byte : planOf (namedBy (instructionWord m c)) .mode ≡ Byte
   unfolding planOf
   byte = ap modeOf mark
 
@@ -80,8 +91,8 @@ module _ (m : Machine) (c : Words) (mark : markOf (wordAbout (m .registers .wait
     refuses = λ k. refl;
     waits = λ x i. refl;
     performs =
-        let p : Plan = planOf (named m c (m .registers .waiting)) in
-        let e : Effect = effectFrom p (before m c) (operandAbout (m .registers .waiting) (c .lines)) in
+        let p : Plan = planOf (namedBy (instructionWord m c)) in
+        let e : Effect = effectFrom p (before m c) (operandWord m c) in
         ap (λ (d : Mode). map upperByte (settledOf d (p .register) (before m c) e (c .pins) .ram)) byte ∙ settled-ram (p .register) (before m c) e (c .pins);
   })
 
@@ -90,7 +101,71 @@ module _ (m : Machine) (c : Words) (mark : markOf (wordAbout (m .registers .wait
     refuses = λ k. refl;
     waits = λ x i. refl;
     performs =
-        let p : Plan = planOf (named m c (m .registers .waiting)) in
-        let e : Effect = effectFrom p (before m c) (operandAbout (m .registers .waiting) (c .lines)) in
+        let p : Plan = planOf (namedBy (instructionWord m c)) in
+        let e : Effect = effectFrom p (before m c) (operandWord m c) in
         ap (λ (d : Mode). upperByte (settledOf d (p .register) (before m c) e (c .pins) .acc)) byte ∙ settled-acc (p .register) (before m c) e (c .pins);
   })
+
+-- a word of a family without an I operand takes none
+module _ (f : Family) (w : ℕ) (h : InFamily f w) where
+  abbrev by-family : Family → Bool
+  by-family f = asksI (rowAt (numberOf f)) (fieldA w) (fieldB w)
+
+  takes-none : by-family f ≡ false → takesImmediate w ≡ false
+  unfolding takesImmediate decodeOf
+  takes-none none = by-test (eqb (refusal (wordChecks w)) 0)
+    where
+      by-test : (b : Bool) → namesI (pick b (accepted (namedBy w)) (refused (refusal (wordChecks w))) .value) ≡ false
+      by-test true = ap by-family (family-in f w h) ∙ none
+      by-test false = refl
+
+no-immediate : (a b : ℕ) → asksI (rowAt (numberOf Noop)) a b ≡ false
+no-immediate a b = rw (zero-div (2 ^ a), zero-div (2 ^ (16 + b)))
+
+-- Test and NOOP change no status, RAM or ACC: whatever the pins, the registers stay
+module _ (mode : Mode) (n k : ℕ) (by : Chooser) (r : Registers) (immediate pins : ℕ) where
+  stays : (a b : Bool) → record { ram = pick a (r .ram) (r .ram); acc = pick a (r .acc) (r .acc); latch = r .latch; status = pick b (r .status) (r .status); waiting = Nothing } ≡ withWaiting r Nothing
+  stays true true = refl
+  stays true false = refl
+  stays false true = refl
+  stays false false = refl
+
+  noop-stays : settledOf mode k r (effectFrom (record { mode = mode; n = n; register = k; work = idle NoOperation by }) r immediate) pins ≡ withWaiting r Nothing
+  unfolding settledOf effectOf outcomeFor viewOf
+  noop-stays = stays (ienHigh pins) (bothLow pins)
+
+  test-stays : settledOf mode k r (effectFrom (record { mode = mode; n = n; register = k; work = idle TestStatus by }) r immediate) pins ≡ withWaiting r Nothing
+  unfolding settledOf effectOf outcomeFor viewOf
+  test-stays = stays (ienHigh pins) (bothLow pins)
+
+-- an accepted cycle of a word of a family without an I operand leaves what settling its plan leaves
+module _ (m : Machine) (c : Words) (rep : Report) (answered : cycleOf m c .answer ≡ accepted rep) (f : Family) where
+  abbrev w : ℕ
+  w = instructionWord m c
+
+  abbrev settledAs : Family → Registers
+  settledAs g =
+      settledOf (modeOf (markOf w)) (fieldC w % 32) (before m c)
+      (effectFrom (record { mode = modeOf (markOf w); n = fieldA w % 16; register = fieldC w % 32; work = workOf g (fieldA w % 16) (fieldB w % 16) (fieldC w % 32) })
+      (before m c) (operandWord m c))
+      (c .pins)
+
+  settles : InFamily f w → asksI (rowAt (numberOf f)) (fieldA w) (fieldB w) ≡ false → cycleOf m c .machine ≡ machineOf (settledAs f)
+  unfolding planOf
+  settles h none = every-way m c (λ (t : Turned). t .answer ≡ accepted rep → t .machine ≡ machineOf (settledAs f)) (record {
+    refuses = λ k e. absurd (accepted-refused rep k (sym e));
+    waits = λ x i e.
+        let same : w ≡ c .lines = ap (λ (x : Waiting). wordAbout x (c .lines)) x in
+        absurd (never (sym (takes-none f w h none) ∙ ap takesImmediate same ∙ i));
+    performs = λ e. ap (λ (g : Family). machineOf (settledAs g)) (family-in f w h);
+  }) answered
+
+-- NOOP and Test leave every register as it was, but for D by DLE, and nothing waiting
+module _ (m : Machine) (c : Words) (rep : Report) (answered : cycleOf m c .answer ≡ accepted rep) where
+  pub family-noop : InFamily Noop (instructionWord m c) → cycleOf m c .machine ≡ machineOf (withWaiting (before m c) Nothing)
+  unfolding workOf
+  family-noop h = settles m c rep answered Noop h (no-immediate (fieldA (instructionWord m c)) (fieldB (instructionWord m c))) ∙ ap machineOf (noop-stays _ _ _ _ (before m c) _ (c .pins))
+
+  pub family-test : InFamily Test (instructionWord m c) → cycleOf m c .machine ≡ machineOf (withWaiting (before m c) Nothing)
+  unfolding workOf
+  family-test h = settles m c rep answered Test h (no-immediate (fieldA (instructionWord m c)) (fieldB (instructionWord m c))) ∙ ap machineOf (test-stays _ _ _ _ (before m c) _ (c .pins))

@@ -25,8 +25,8 @@ use Rattle.machine.specs.declared.Turn.{Turn}
 use Rattle.machine.specs.Pins.{ienHigh, bothLow}
 use Rattle.machine.specs.Judging.{wordAbout, waitingWords, mayStart}
 use Rattle.machine.specs.Settling.{withWaiting, settledOf}
-use Rattle.machine.specs.Cycles.{Turned, machineOf, cycleOf, answerTells, turnTells, completions}
-use Rattle.machine.proofs.Ways.{before, named, every-way}
+use Rattle.machine.specs.Cycles.{Turned, machineOf, cycleOf, answerTells, turnTells, completions, before, instructionWord}
+use Rattle.machine.proofs.Ways.{every-way}
 
 -- an answer that is told as a report has that report; a refused one has none
 told : {A : Type 0} (field : Report → A) (x : Report) (r : Report) → accepted x ≡ accepted r → field x ≡ field r
@@ -77,8 +77,8 @@ module _ (m : Machine) (c : Words) where
 
     -- what it completes is the instruction of the word that it is about; with a word waiting it completes that word's
     pub completes-its-own : cycleOf m c .answer ≡ accepted r
-        → (completions (r .completed) ≡ 1 → r .completed ≡ Instruction (named m c (m .registers .waiting)))
-    completes-its-own = every-way m c (λ (t : Turned). t .answer ≡ accepted r → completions (r .completed) ≡ 1 → r .completed ≡ Instruction (named m c (m .registers .waiting))) (record {
+        → (completions (r .completed) ≡ 1 → r .completed ≡ Instruction (namedBy (instructionWord m c)))
+    completes-its-own = every-way m c (λ (t : Turned). t .answer ≡ accepted r → completions (r .completed) ≡ 1 → r .completed ≡ Instruction (namedBy (instructionWord m c))) (record {
       refuses = λ k e. refused-has-none k r e;
       waits = λ x i e z.
           let none : _≡_ {A = ℕ} 0 1 = told (λ (r : Report). completions (r .completed)) _ r e ∙ z in
@@ -90,7 +90,7 @@ module _ (m : Machine) (c : Words) where
     waiting-completes w h = every-way m c (λ (t : Turned). t .answer ≡ accepted r → r .completed ≡ Instruction (namedBy w)) (record {
       refuses = λ k e. refused-has-none k r e;
       waits = λ x i e. absurd (held-something (sym h ∙ x));
-      performs = λ e. sym (told (λ (r : Report). r .completed) _ r e) ∙ ap (λ (x : Waiting). Instruction (named m c x)) h;
+      performs = λ e. sym (told (λ (r : Report). r .completed) _ r e) ∙ ap (λ (x : Waiting). Instruction (namedBy (wordAbout x (c .lines)))) h;
     })
       where
         held-something : Held w ≡ Nothing → ⊥

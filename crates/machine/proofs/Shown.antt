@@ -1,12 +1,13 @@
--- A shown Y has no bit outside its mask: masks are all ones from bit 0 on, and Y is no larger.
-use mathlib.Core.Path.{_≡_, sym, subst}
+-- `shown-in-mask`, at the end: a reported mask is 0000, 00FF or FFFF, and Y has no bit outside it. Of a machine whose status is below 256,
+-- as any machine's is: it is a byte.
+use mathlib.Core.Path.{_≡_, refl, _∙_, sym, ap, subst}
 use mathlib.Core.Bool.{Bool, true, false}
-use Prim.Native.Nat.{ℕ, _≤_, _<_, zero-le, _%_}
-use native.Mathlib.Nat.{le-refl}
+use mathlib.Core.Logic.{_⊎_, inl, inr, ⊎-elim}
+use Prim.Native.Nat.{ℕ, _≤_, _<_, zero-le, _-_, _%_, _^_}
+use native.Mathlib.Nat.{le-refl, mod-eq-of-lt}
 use native.Mathlib.Omega.{arith}
-use lib.Dec.{eqb}
+use lib.Bits.{bitAnd, and-mask, and-zero-l}
 use Rattle.choice.specs.Pick.{pick}
-use Rattle.choice.specs.Checks.{refusal}
 use Rattle.choice.specs.Tells.{accepted}
 use Rattle.choice.proofs.Tells.{accepted-one, accepted-refused}
 use Rattle.alu.specs.declared.Mode.{Mode}
@@ -19,22 +20,21 @@ use Rattle.alu.proofs.Changes.{result-lt}
 use Rattle.isa.specs.declared.Family.{Family}
 use Rattle.isa.specs.declared.Family.the-variants.{Tor1, Rotr1, Rotr2, Rotc, Rotm, Sor, Bor2, Tor2, Shftr, Crcf, Crcr, Prt1, Prt2, Prt3, Svstr, Sonr, Tonr, Shftnr, Bor1, Bonr, Rotnr, Prtnr, Svstnr, Setst, Rstst, Test, Noop}
 use Rattle.isa.specs.declared.Named.{Named}
-use Rattle.isa.specs.Words.{namedBy, takesImmediate}
+use Rattle.isa.specs.Words.{namedBy}
+use Rattle.plan.specs.declared.Shown.{Shown}
+use Rattle.plan.specs.declared.Shown.the-variants.{AtWidth, Whole, Nothing}
 use Rattle.plan.specs.declared.Plan.{Plan}
 use Rattle.plan.specs.Plans.{workOf, planOf}
-use Rattle.machine.specs.declared.Waiting.{Waiting}
-use Rattle.machine.specs.declared.Waiting.the-variants.{Nothing, Held}
-use Rattle.machine.specs.declared.Registers.{Registers}
 use Rattle.machine.specs.declared.Machine.{Machine}
 use Rattle.machine.specs.declared.Words.{Words}
 use Rattle.machine.specs.declared.View.{View}
 use Rattle.machine.specs.declared.Report.{Report}
 use Rattle.machine.specs.Pins.{oeYHigh}
-use Rattle.machine.specs.Judging.{Judgement, Refuse, Wait, checksOf, acceptedAs, judged, perform, judgementOf}
 use Rattle.machine.specs.Seeing.{viewOf}
-use Rattle.machine.specs.Acting.{widthMask, outcomeFor, effectOf}
-use Rattle.machine.specs.Settling.{latched}
-use Rattle.machine.specs.Cycles.{turnOf, cycleOf}
+use Rattle.machine.specs.Acting.{widthMask, outcomeFor, maskOf, effectOf}
+use Rattle.machine.specs.Reporting.{KnownBits}
+use Rattle.machine.specs.Cycles.{Turned, cycleOf, before, instructionWord, operandWord}
+use Rattle.machine.proofs.Ways.{every-way}
 
 width-fits : (mode : Mode) (o : Operation) (status : ℕ) → outcomeOf (widthOf mode) o status .result ≤ widthMask mode
 width-fits Byte o status = omega (arith, result-lt 8 (width-positive Byte) o status)
@@ -79,44 +79,49 @@ effect-fits Rstst mode n k a b c v h = zero-le
 effect-fits Test mode n k a b c v h = zero-le
 effect-fits Noop mode n k a b c v h = zero-le
 
-shown-or-not : (b : Bool) (y mask : ℕ) → y ≤ mask → pick b 0 y ≤ pick b 0 mask
-shown-or-not true y mask h = zero-le
+-- the masks: none, a byte's, or all
+masks-known : (s : Shown) (mode : Mode) → (maskOf s mode ≡ 0x0000) ⊎ ((maskOf s mode ≡ 0x00FF) ⊎ (maskOf s mode ≡ 0xFFFF))
+masks-known AtWidth Byte = inr (inl refl)
+masks-known AtWidth Word = inr (inr refl)
+masks-known Whole mode = inr (inr refl)
+masks-known Nothing mode = inl refl
+
+-- a number that is no larger than such a mask has no bit outside it
+known : (y mask : ℕ) → (mask ≡ 0x0000) ⊎ ((mask ≡ 0x00FF) ⊎ (mask ≡ 0xFFFF)) → y ≤ mask → KnownBits y mask
+known y mask masks le = record {
+  masks = masks;
+  inside = ⊎-elim
+      (λ e. let none : y ≡ 0 = omega (arith, le, e) in ap (λ (x : ℕ). bitAnd x mask) none ∙ and-zero-l mask ∙ sym none)
+      (⊎-elim (λ e. ap (bitAnd y) e ∙ ones 8 (omega (arith, le, e))) (λ e. ap (bitAnd y) e ∙ ones 16 (omega (arith, le, e)))) masks;
+}
+  where
+    ones : (k : ℕ) → y < 2 ^ k → bitAnd y (2 ^ k - 1) ≡ y
+    ones k lt = and-mask y k ∙ mod-eq-of-lt lt
+
+shown-or-not : (b : Bool) (y mask : ℕ) → KnownBits y mask → KnownBits (pick b 0 y) (pick b 0 mask)
+shown-or-not true y mask h = known 0 0 (inl refl) zero-le
 shown-or-not false y mask h = h
 
 module _ (m : Machine) (c : Words) (small : m .registers .status < 256) where
-  abbrev r : Registers
-  r = latched (m .registers) (c .input) (c .pins)
+  abbrev n : Named
+  n = namedBy (instructionWord m c)
 
-  Fits : Judgement → Type 0
-  Fits j = (rep : Report) → turnOf j m r c .answer ≡ accepted rep → rep .y ≤ rep .mask
+  abbrev v : View
+  v = viewOf (n .mode) (n .c % 32) (before m c) (operandWord m c)
 
-  performed-fits : (n : Named) (immediate : ℕ) → Fits (perform n immediate)
-  unfolding Fits planOf viewOf
-  performed-fits n immediate rep e =
-      subst (λ (s : Report). s .y ≤ s .mask) (accepted-one _ rep e)
-      (shown-or-not (oeYHigh (c .pins)) _ _
-      (effect-fits (n .family) (n .mode) (n .a % 16) (n .c % 32) (n .a % 16) (n .b % 16) (n .c % 32) (viewOf (n .mode) (n .c % 32) r immediate) small))
+  effect-known : KnownBits (effectOf (planOf n) v .shown) (effectOf (planOf n) v .mask)
+  unfolding planOf effectOf viewOf
+  effect-known =
+      known _ _ (masks-known (planOf n .work .shown) (n .mode))
+      (effect-fits (n .family) (n .mode) (n .a % 16) (n .c % 32) (n .a % 16) (n .b % 16) (n .c % 32) v small)
 
-  waiting-fits : Fits Wait
-  unfolding Fits
-  waiting-fits rep e = subst (λ (s : Report). s .y ≤ s .mask) (accepted-one _ rep e) zero-le
+  told : (rep x : Report) → accepted x ≡ accepted rep → KnownBits (x .y) (x .mask) → KnownBits (rep .y) (rep .mask)
+  told rep x e = subst (λ (s : Report). KnownBits (s .y) (s .mask)) (accepted-one x rep e)
 
-  accepted-fits : (w : Waiting) → Fits (acceptedAs w c)
-  accepted-fits Nothing = by-test (takesImmediate (c .lines))
-    where
-      by-test : (b : Bool) → Fits (pick b Wait (perform (namedBy (c .lines)) 0))
-      by-test true = waiting-fits
-      by-test false = performed-fits (namedBy (c .lines)) 0
-  accepted-fits (Held w) = performed-fits (namedBy w) (c .lines)
-
-  judged-fits : (k : ℕ) (j : Judgement) → Fits j → Fits (judged k j)
-  unfolding Fits
-  judged-fits k j f = by-test (eqb k 0)
-    where
-      by-test : (b : Bool) (rep : Report) → turnOf (pick b j (Refuse k)) m r c .answer ≡ accepted rep → rep .y ≤ rep .mask
-      by-test true rep e = f rep e
-      by-test false rep e = absurd (accepted-refused rep k (sym e))
-
-  pub shown-in-mask : (rep : Report) → cycleOf m c .answer ≡ accepted rep → rep .y ≤ rep .mask
-  unfolding cycleOf judgementOf Fits
-  shown-in-mask rep e = judged-fits (refusal (checksOf (m .registers .waiting) c)) (acceptedAs (m .registers .waiting) c) (accepted-fits (m .registers .waiting)) rep e
+  pub shown-in-mask : (rep : Report) → cycleOf m c .answer ≡ accepted rep → KnownBits (rep .y) (rep .mask)
+  unfolding planOf
+  shown-in-mask rep = every-way m c (λ (t : Turned). t .answer ≡ accepted rep → KnownBits (rep .y) (rep .mask)) (record {
+    refuses = λ k e. absurd (accepted-refused rep k (sym e));
+    waits = λ x i e. told rep _ e (known 0 0 (inl refl) zero-le);
+    performs = λ e. told rep _ e (shown-or-not (oeYHigh (c .pins)) _ _ effect-known);
+  })

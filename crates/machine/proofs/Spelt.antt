@@ -1,9 +1,11 @@
--- Single cycles spelt out: what is written with IEN and SRE low, after a MOVE, after a two-operand instruction, and after any word without an
--- I operand, which is performed at once; and that a word that may wait is completed.
+-- Single cycles spelt out. An accepted cycle that completes an instruction, with IEN and SRE low, leaves what the plan of its word says
+-- (`completed-leaves`); by the fields of the word for TOR1, TOR2, TONR, SOR and SONR (`tor1-cycle` and so on), to be read beside the data sheet.
+-- At the end: a word without an I operand is performed at once (`performs-at-once`, `leaves-at-once`).
 use mathlib.Core.Path.{_≡_, refl, _∙_, sym, ap}
 use mathlib.Core.Bool.{Bool, true, false, not}
 use mathlib.Core.List.{List, [], _∷_}
-use Prim.Native.Nat.{ℕ, _%_}
+use Prim.Native.Nat.{ℕ, _/_, _%_}
+use native.Mathlib.Nat.{mod-mod}
 use native.Mathlib.Omega.{arith}
 use borrow.Author.Tests.{ne-eqb, eqb-true}
 use lib.Dec.{eqb}
@@ -13,49 +15,41 @@ use Rattle.choice.specs.Tells.{Tells, accepted}
 use Rattle.choice.proofs.Spans.{never}
 use Rattle.choice.proofs.Tells.{accepted-one, accepted-refused, told-accepted}
 use Rattle.alu.specs.declared.Mode.{Mode}
-use Rattle.alu.specs.declared.Outcome.{Outcome}
-use Rattle.alu.specs.declared.TwoOperandKind.{TwoOperandKind}
-use Rattle.alu.specs.declared.OneOperandKind.the-variants.{Move}
+use Rattle.alu.specs.declared.Operation.{Operation}
 use Rattle.alu.specs.declared.Operation.the-variants.{TwoOperand as TwoOperandOn, OneOperand as OneOperandOn}
 use Rattle.alu.specs.Width.{widthOf}
 use Rattle.alu.specs.Operations.{outcomeOf}
+use Rattle.isa.specs.declared.Family.{Family}
+use Rattle.isa.specs.declared.Family.the-variants.{Tor1, Sor, Tor2, Sonr, Tonr}
 use Rattle.isa.specs.declared.Named.{Named}
-use Rattle.isa.specs.Words.{wordChecks, namedBy, decodeOf, namedRow, asksI, namesI, takesImmediate}
+use Rattle.isa.specs.Fields.{markOf, fieldA, fieldB, fieldC, modeOf}
+use Rattle.isa.specs.Words.{InFamily, wordChecks, namedBy, decodeOf, namedRow, asksI, namesI, takesImmediate}
+use Rattle.isa.proofs.Laws.{family-in}
 use Rattle.plan.specs.declared.Source.{Source}
 use Rattle.plan.specs.declared.Destination.{Destination}
-use Rattle.plan.specs.declared.Task.the-variants.{TwoOperand, OneOperand}
+use Rattle.plan.specs.declared.Destination.the-variants.{ToRam}
 use Rattle.plan.specs.declared.Plan.{Plan}
-use Rattle.plan.specs.Plans.{atWidth, one, two, planOf}
+use Rattle.plan.specs.Tables.{twoOperandAt, oneOperandAt, ramPairR, ramPairS, pairR, pairS, sourceAt, ramPairTo, sorTo, noRamTo}
+use Rattle.plan.specs.Plans.{workOf, planOf}
 use Rattle.machine.specs.declared.Waiting.{Waiting}
-use Rattle.machine.specs.declared.Waiting.the-variants.{Nothing, Held}
+use Rattle.machine.specs.declared.Waiting.the-variants.{Nothing}
 use Rattle.machine.specs.declared.Registers.{Registers}
 use Rattle.machine.specs.declared.Machine.{Machine}
 use Rattle.machine.specs.declared.Words.{Words}
-use Rattle.machine.specs.declared.View.{View}
 use Rattle.machine.specs.declared.Effect.{Effect}
-use Rattle.machine.specs.declared.Completed.the-variants.{Instruction}
 use Rattle.machine.specs.declared.Report.{Report}
 use Rattle.machine.specs.Pins.{ienHigh, bothLow, strayPin, busClash}
-use Rattle.machine.specs.Judging.{Judgement, Refuse, Wait, checksOf, judged, perform, judgementOf}
+use Rattle.machine.specs.Judging.{Judgement, Wait, judged, perform, judgementOf}
 use Rattle.machine.specs.Seeing.{viewOf, operandOf}
-use Rattle.machine.specs.Acting.{statusFor, outcomeFor, performedOf, effectOf}
+use Rattle.machine.specs.Acting.{outcomeFor, performedOf, effectOf}
 use Rattle.machine.specs.Settling.{latched, ramAfter, accAfter, settledOf}
-use Rattle.machine.specs.Cycles.{Turned, machineOf, effectFrom, turnOf, cycleOf}
+use Rattle.machine.specs.Cycles.{Turned, machineOf, effectFrom, turnOf, cycleOf, completions, written, before, instructionWord, operandWord}
+use Rattle.machine.proofs.Ways.{every-way}
 
 -- IEN and SRE low: the destination, and the status, are written
-abbrev pub written : Mode → ℕ → Registers → Destination → Outcome → Registers
-written mode k r d o = record {
-  ram = ramAfter d mode k (o .result) (r .ram);
-  acc = accAfter d mode (o .result) (r .acc);
-  latch = r .latch;
-  status = statusFor d mode o (r .status);
-  waiting = Nothing;
-}
-
-module _ (mode : Mode) (n k : ℕ) (r : Registers) (immediate pins : ℕ) (ien : ienHigh pins ≡ false) (low : bothLow pins ≡ true) where
-  -- what the instruction sees
-  abbrev v : View
-  v = viewOf mode k r immediate
+module _ (mode : Mode) (k : ℕ) (r : Registers) (pins : ℕ) (low : bothLow pins ≡ true) where
+  ien-low : ienHigh pins ≡ false
+  ien-low = ne-eqb (pins % 2) 1 (λ o. omega (arith, eqb-true (pins % 4) 0 low))
 
   -- nothing waits any more, and D stays
   abbrev holding : List ℕ → ℕ → ℕ → Registers
@@ -65,7 +59,7 @@ module _ (mode : Mode) (n k : ℕ) (r : Registers) (immediate pins : ℕ) (ien :
       → settledOf mode k r e pins
       ≡ holding (ramAfter (e .destination) mode k (e .result) (r .ram)) (accAfter (e .destination) mode (e .result) (r .acc)) (e .status)
   unfolding settledOf
-  writes e = by-test (ienHigh pins) (bothLow pins) ien low
+  writes e = by-test (ienHigh pins) (bothLow pins) ien-low low
     where
       by-test : (i b : Bool) → i ≡ false → b ≡ true
           → holding (pick i (r .ram) (ramAfter (e .destination) mode k (e .result) (r .ram)))
@@ -75,25 +69,86 @@ module _ (mode : Mode) (n k : ℕ) (r : Registers) (immediate pins : ℕ) (ien :
       by-test false true p q = refl
       by-test false false p q = absurd (never q)
 
-  -- a two-operand instruction, its operands RAM, ACC, I or any source
-  pub two-operand-cycle : (kind : TwoOperandKind) (x y : Source) (d : Destination)
-      → let p : Plan = record { mode = mode; n = n; register = k; work = atWidth (TwoOperand kind) (two x y) d } in
-      settledOf mode k r (effectFrom p r immediate) pins
-      ≡ written mode k r d (outcomeOf (widthOf mode) (TwoOperandOn kind (operandOf x v) (operandOf y v)) (v .status))
-  unfolding effectOf outcomeFor viewOf
-  two-operand-cycle kind x y d =
-      let p : Plan = record { mode = mode; n = n; register = k; work = atWidth (TwoOperand kind) (two x y) d } in
-      writes (effectFrom p r immediate)
+-- an accepted cycle that completes an instruction, with IEN and SRE low
+module _ (m : Machine) (c : Words) (rep : Report) (answered : cycleOf m c .answer ≡ accepted rep) (completed : completions (rep .completed) ≡ 1)
+    (low : bothLow (c .pins) ≡ true) where
+  -- the word that it is about, with its mode; D is latched already
+  abbrev w : ℕ
+  w = instructionWord m c
 
-  -- a MOVE
-  pub move-cycle : (x : Source) (d : Destination)
-      → let p : Plan = record { mode = mode; n = n; register = k; work = atWidth (OneOperand Move) (one x) d } in
-      settledOf mode k r (effectFrom p r immediate) pins
-      ≡ written mode k r d (outcomeOf (widthOf mode) (OneOperandOn Move (operandOf x v)) (v .status))
-  unfolding effectOf outcomeFor viewOf
-  move-cycle x d =
-      let p : Plan = record { mode = mode; n = n; register = k; work = atWidth (OneOperand Move) (one x) d } in
-      writes (effectFrom p r immediate)
+  abbrev mode : Mode
+  mode = modeOf (markOf w)
+
+  -- what the instruction sees of a source
+  abbrev sees : ℕ → Source → ℕ
+  sees k s = operandOf s (viewOf mode k (before m c) (operandWord m c))
+
+  -- what the plan of an instruction leaves: its outcome goes to the destination and the status
+  abbrev leftBy : Plan → Machine
+  leftBy p =
+      machineOf (written (p .mode) (p .register) (before m c) (p .work .destination)
+      (performedOf p (viewOf (p .mode) (p .register) (before m c) (operandWord m c))))
+
+  -- any instruction: its word's plan says what is left
+  pub completed-leaves : cycleOf m c .machine ≡ leftBy (planOf (namedBy w))
+  unfolding effectOf viewOf
+  completed-leaves =
+      let p : Plan = planOf (namedBy w) in
+      every-way m c (λ (t : Turned). t .answer ≡ accepted rep → t .machine ≡ leftBy p) (record {
+        refuses = λ k e. absurd (accepted-refused rep k (sym e));
+        waits = λ x i e.
+            let none : _≡_ {A = ℕ} 0 1 = ap (λ (r : Report). completions (r .completed)) (accepted-one _ rep e) ∙ completed in
+            absurd (omega (arith, none));
+        performs = λ e.
+            ap machineOf (writes (p .mode) (p .register) (before m c) (c .pins) low (effectFrom p (before m c) (operandWord m c)));
+      }) answered
+
+  -- fields are in their range
+  abbrev planned : Family → ℕ → ℕ → ℕ → Plan
+  planned f a b c = record { mode = mode; n = a; register = c; work = workOf f a b c }
+
+  plan-by : (f : Family) → InFamily f w → planOf (namedBy w) ≡ planned f (fieldA w) (fieldB w) (fieldC w)
+  unfolding planOf
+  plan-by f h =
+      ap (λ (g : Family). planned g (fieldA w % 16) (fieldB w % 16) (fieldC w % 32)) (family-in f w h)
+      ∙ rw (mod-mod (w / 0x200) 16, mod-mod (w / 0x20) 16, mod-mod w 32)
+
+  by-family : (f : Family) → InFamily f w → cycleOf m c .machine ≡ leftBy (planned f (fieldA w) (fieldB w) (fieldC w))
+  by-family f h = completed-leaves ∙ ap leftBy (plan-by f h)
+
+  -- an operation's outcome at the mode's width goes to a destination, register C where that is RAM
+  abbrev leaves : Destination → Operation → Machine
+  leaves d o = machineOf (written mode (fieldC w) (before m c) d (outcomeOf (widthOf mode) o (m .registers .status)))
+
+  -- the two-operand families
+  pub tor1-cycle : InFamily Tor1 w
+      → cycleOf m c .machine
+      ≡ leaves (ramPairTo (fieldA w)) (TwoOperandOn (twoOperandAt (fieldB w)) (sees (fieldC w) (ramPairR (fieldA w))) (sees (fieldC w) (ramPairS (fieldA w))))
+  unfolding workOf outcomeFor viewOf
+  tor1-cycle h = by-family Tor1 h
+
+  pub tor2-cycle : InFamily Tor2 w
+      → cycleOf m c .machine
+      ≡ leaves ToRam (TwoOperandOn (twoOperandAt (fieldB w)) (sees (fieldC w) (pairR (fieldA w))) (sees (fieldC w) (pairS (fieldA w))))
+  unfolding workOf outcomeFor viewOf
+  tor2-cycle h = by-family Tor2 h
+
+  pub tonr-cycle : InFamily Tonr w
+      → cycleOf m c .machine
+      ≡ leaves (noRamTo (fieldC w)) (TwoOperandOn (twoOperandAt (fieldB w)) (sees (fieldC w) (pairR (fieldA w))) (sees (fieldC w) (pairS (fieldA w))))
+  unfolding workOf outcomeFor viewOf
+  tonr-cycle h = by-family Tonr h
+
+  -- the one-operand families: MOVE, COMP, INC, NEG
+  pub sor-cycle : InFamily Sor w
+      → cycleOf m c .machine ≡ leaves (sorTo (fieldB w)) (OneOperandOn (oneOperandAt (fieldA w)) (sees (fieldC w) (sourceAt (fieldB w))))
+  unfolding workOf outcomeFor viewOf
+  sor-cycle h = by-family Sor h
+
+  pub sonr-cycle : InFamily Sonr w
+      → cycleOf m c .machine ≡ leaves (noRamTo (fieldC w)) (OneOperandOn (oneOperandAt (fieldA w)) (sees (fieldC w) (sourceAt (fieldB w))))
+  unfolding workOf outcomeFor viewOf
+  sonr-cycle h = by-family Sonr h
 
 -- with nothing waiting, a cycle whose word is accepted and has no I operand, and whose pins are in order, performs the word's instruction
 module _ (m : Machine) (c : Words) (i : Named) (idle : m .registers .waiting ≡ Nothing) (stray : strayPin (c .pins) ≡ false)
@@ -133,24 +188,5 @@ module _ (m : Machine) (c : Words) (i : Named) (idle : m .registers .waiting ≡
   leaves-at-once low =
       let p : Plan = planOf i in
       let r : Registers = latched (m .registers) (c .input) (c .pins) in
-      let ien : ienHigh (c .pins) ≡ false = ne-eqb (c .pins % 2) 1 (λ o. omega (arith, eqb-true (c .pins % 4) 0 low)) in
       ap (λ (t : Turned). t .machine) performs-at-once
-      ∙ ap machineOf (writes (p .mode) (p .n) (p .register) r 0 (c .pins) ien low (effectFrom p r 0))
-
--- an accepted cycle with a word waiting completes that word's instruction
-module _ (m : Machine) (c : Words) (w : ℕ) where
-  abbrev before : Registers
-  before = latched (m .registers) (c .input) (c .pins)
-
-  completes-by : (k : ℕ) (rep : Report) → turnOf (judged k (perform (namedBy w) (c .lines))) m before c .answer ≡ accepted rep → rep .completed ≡ Instruction (namedBy w)
-  completes-by k rep = by-test (eqb k 0)
-    where
-      by-test : (b : Bool) → turnOf (pick b (perform (namedBy w) (c .lines)) (Refuse k)) m before c .answer ≡ accepted rep → rep .completed ≡ Instruction (namedBy w)
-      by-test true e = ap (λ (s : Report). s .completed) (sym (accepted-one _ rep e))
-      by-test false e = absurd (accepted-refused rep k (sym e))
-
-  pub waiting-completes : (rep : Report) → m .registers .waiting ≡ Held w → cycleOf m c .answer ≡ accepted rep → rep .completed ≡ Instruction (namedBy w)
-  unfolding cycleOf judgementOf
-  waiting-completes rep e a =
-      completes-by (refusal (checksOf (Held w) c)) rep
-      (sym (ap (λ (x : Waiting). turnOf (judgementOf x c) m before c .answer) e) ∙ a)
+      ∙ ap machineOf (writes (p .mode) (p .register) r (c .pins) low (effectFrom p r 0))

@@ -11,43 +11,38 @@ use Rattle.isa.specs.Words.{namedBy, takesImmediate}
 use Rattle.plan.specs.Plans.{planOf}
 use Rattle.machine.specs.declared.Waiting.{Waiting}
 use Rattle.machine.specs.declared.Waiting.the-variants.{Nothing, Held}
-use Rattle.machine.specs.declared.Registers.{Registers}
 use Rattle.machine.specs.declared.Machine.{Machine}
 use Rattle.machine.specs.declared.Words.{Words}
 use Rattle.machine.specs.Judging.{Refuse, Wait, perform, checksOf, wordAbout, operandAbout, acceptedAs, judgementOf}
-use Rattle.machine.specs.Settling.{latched}
-use Rattle.machine.specs.Cycles.{Turned, refusedTurn, waitingTurn, performedTurn, turnOf, cycleOf}
+use Rattle.machine.specs.Cycles.{Turned, refusedTurn, waitingTurn, performedTurn, turnOf, before, cycleOf}
 
 module _ (m : Machine) (c : Words) where
-  -- the registers that a cycle works on, and the instruction of the word that it is about, with a word waiting or none
-  abbrev pub before : Registers
-  before = latched (m .registers) (c .input) (c .pins)
-
-  abbrev pub named : Waiting → Named
+  -- the instruction of the word that the cycle is about, with a word waiting or none
+  abbrev named : Waiting → Named
   named x = namedBy (wordAbout x (c .lines))
 
-  abbrev pub performed : Waiting → Turned
-  performed x = performedTurn (named x) (planOf (named x)) before (operandAbout x (c .lines)) (c .pins)
+  abbrev performed : Waiting → Turned
+  performed x = performedTurn (named x) (planOf (named x)) (before m c) (operandAbout x (c .lines)) (c .pins)
 
   pub record Ways (x : Waiting) (P : Turned → Type 0) : Type 0 where
     pub refuses : (k : ℕ) → P (refusedTurn m k)
-    pub waits : x ≡ Nothing → takesImmediate (c .lines) ≡ true → P (waitingTurn before c)
+    pub waits : x ≡ Nothing → takesImmediate (c .lines) ≡ true → P (waitingTurn (before m c) c)
     pub performs : P (performed x)
 
   module _ (P : Turned → Type 0) where
-    accepted-way : (x : Waiting) → Ways x P → P (turnOf (acceptedAs x c) m before c)
+    accepted-way : (x : Waiting) → Ways x P → P (turnOf (acceptedAs x c) m (before m c) c)
     accepted-way Nothing w = by-test (takesImmediate (c .lines)) refl
       where
-        by-test : (b : Bool) → takesImmediate (c .lines) ≡ b → P (turnOf (pick b Wait (perform (named Nothing) 0)) m before c)
+        by-test : (b : Bool) → takesImmediate (c .lines) ≡ b → P (turnOf (pick b Wait (perform (named Nothing) 0)) m (before m c) c)
         by-test true e = w .waits refl e
         by-test false e = w .performs
     accepted-way (Held x) w = w .performs
 
-    way-from : (x : Waiting) → Ways x P → P (turnOf (judgementOf x c) m before c)
+    way-from : (x : Waiting) → Ways x P → P (turnOf (judgementOf x c) m (before m c) c)
     unfolding judgementOf
     way-from x w = by-test (eqb (refusal (checksOf x c)) 0)
       where
-        by-test : (b : Bool) → P (turnOf (pick b (acceptedAs x c) (Refuse (refusal (checksOf x c)))) m before c)
+        by-test : (b : Bool) → P (turnOf (pick b (acceptedAs x c) (Refuse (refusal (checksOf x c)))) m (before m c) c)
         by-test true = accepted-way x w
         by-test false = w .refuses (refusal (checksOf x c))
 

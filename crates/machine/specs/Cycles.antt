@@ -19,7 +19,7 @@ use Rattle.machine.specs.declared.Answer.{Answer}
 use Rattle.machine.specs.declared.Turn.{Turn}
 use Rattle.machine.specs.declared.Effect.{Effect}
 use Rattle.machine.specs.Pins.{oeYHigh}
-use Rattle.machine.specs.Judging.{Judgement, Refuse, Wait, Perform, judgementOf}
+use Rattle.machine.specs.Judging.{Judgement, Refuse, Wait, Perform, wordAbout, operandAbout, judgementOf}
 use Rattle.machine.specs.Seeing.{viewOf}
 use Rattle.machine.specs.Acting.{statusFor, effectOf}
 use Rattle.machine.specs.Settling.{latched, withWaiting, ramAfter, accAfter, settledOf}
@@ -75,9 +75,19 @@ turnOf (Refuse k) m r c = refusedTurn m k
 turnOf Wait m r c = waitingTurn r c
 turnOf (Perform n p immediate) m r c = performedTurn n p r immediate (c .pins)
 
+-- the registers that a cycle works on: D is latched before anything else
+abbrev pub before : Machine → Words → Registers
+before m c = latched (m .registers) (c .input) (c .pins)
+
 unfoldable pub cycleOf : Machine → Words → Turned
-cycleOf m c =
-    turnOf (judgementOf (m .registers .waiting) c) m (latched (m .registers) (c .input) (c .pins)) c
+cycleOf m c = turnOf (judgementOf (m .registers .waiting) c) m (before m c) c
+
+-- the word that a cycle is about, and its I operand
+abbrev pub instructionWord : Machine → Words → ℕ
+instructionWord m c = wordAbout (m .registers .waiting) (c .lines)
+
+abbrev pub operandWord : Machine → Words → ℕ
+operandWord m c = operandAbout (m .registers .waiting) (c .lines)
 
 -- what an answer tells, and what a turn of the code is
 abbrev pub answerTells : Answer → Tells Report

@@ -1,8 +1,10 @@
--- CT and T (document 01, the machine and one cycle).
+-- CT and T and, for a law, the known bits of Y (document 01, the machine and one cycle; the report).
+use mathlib.Core.Path.{_≡_}
+use mathlib.Core.Logic.{_⊎_}
 use Prim.Native.Nat.{ℕ, _-_, _%_}
 use mathlib.Core.List.{List, [], _∷_}
 use lib.ListN.{getD}
-use lib.Bits.{bitOr, bitXor}
+use lib.Bits.{bitAnd, bitOr, bitXor}
 use Rattle.choice.specs.Pick.{pick}
 use Rattle.alu.specs.Width.{bit}
 use Rattle.alu.specs.Flags.{storedC, storedN, storedOVR, storedLINK}
@@ -43,3 +45,8 @@ ctOf (Instruction code) s pins = pick (ienHigh pins) (ctByPins s pins) (conditio
 
 abbrev pub tOf : ℕ → ℕ → ℕ
 tOf s pins = pick (oeTHigh pins) (s % 16) noT
+
+-- for a law, what a report knows of Y: no bit, those of the low byte or all, and Y has none outside them (document 01, the report)
+pub record KnownBits (y mask : ℕ) : Type 0 where
+  pub masks : (mask ≡ 0x0000) ⊎ ((mask ≡ 0x00FF) ⊎ (mask ≡ 0xFFFF))
+  pub inside : bitAnd y mask ≡ y

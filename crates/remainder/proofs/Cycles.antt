@@ -23,8 +23,8 @@ use Rattle.machine.specs.declared.Words.{Words}
 use Rattle.machine.specs.Seeing.{registerAt, viewOf}
 use Rattle.machine.specs.Acting.{outcomeFor, performedOf}
 use Rattle.machine.specs.Settling.{latched}
-use Rattle.machine.specs.Cycles.{Turned, machineOf, cycleOf}
-use Rattle.machine.proofs.Spelt.{performs-at-once, written, leaves-at-once}
+use Rattle.machine.specs.Cycles.{Turned, machineOf, cycleOf, written}
+use Rattle.machine.proofs.Spelt.{performs-at-once, leaves-at-once}
 use Rattle.run.specs.Leading.{Accepts}
 use Rattle.remainder.specs.Remainder.{putInLink, Direction, forward, reverse, stepOn, Asks, digit, mirror, oriented}
 use Rattle.remainder.proofs.Division.{next-lt}
