@@ -88,7 +88,7 @@ module _ (m : Machine) (c : Words) (mark : markOf (instructionWord m c) ≡ 0) w
 
   pub byte-keeps-ram : map upperByte (cycleOf m c .machine .registers .ram) ≡ map upperByte (m .registers .ram)
   byte-keeps-ram = every-way m c (λ (t : Turned). map upperByte (t .machine .registers .ram) ≡ map upperByte (m .registers .ram)) (record {
-    refuses = λ k. refl;
+    refuses = λ k n. refl;
     waits = λ x i. refl;
     performs =
         let p : Plan = planOf (namedBy (instructionWord m c)) in
@@ -98,7 +98,7 @@ module _ (m : Machine) (c : Words) (mark : markOf (instructionWord m c) ≡ 0) w
 
   pub byte-keeps-acc : upperByte (cycleOf m c .machine .registers .acc) ≡ upperByte (m .registers .acc)
   byte-keeps-acc = every-way m c (λ (t : Turned). upperByte (t .machine .registers .acc) ≡ upperByte (m .registers .acc)) (record {
-    refuses = λ k. refl;
+    refuses = λ k n. refl;
     waits = λ x i. refl;
     performs =
         let p : Plan = planOf (namedBy (instructionWord m c)) in
@@ -153,7 +153,7 @@ module _ (m : Machine) (c : Words) (rep : Report) (answered : cycleOf m c .answe
   settles : InFamily f w → asksI (rowAt (numberOf f)) (fieldA w) (fieldB w) ≡ false → cycleOf m c .machine ≡ machineOf (settledAs f)
   unfolding planOf
   settles h none = every-way m c (λ (t : Turned). t .answer ≡ accepted rep → t .machine ≡ machineOf (settledAs f)) (record {
-    refuses = λ k e. absurd (accepted-refused rep k (sym e));
+    refuses = λ k n e. absurd (accepted-refused rep k (sym e));
     waits = λ x i e.
         let same : w ≡ c .lines = ap (λ (x : Waiting). wordAbout x (c .lines)) x in
         absurd (never (sym (takes-none f w h none) ∙ ap takesImmediate same ∙ i));

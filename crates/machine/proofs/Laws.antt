@@ -44,15 +44,23 @@ module _ (m : Machine) (c : Words) where
   -- a refused cycle changes nothing
   pub refused-unchanged : (k : ℕ) → cycleOf m c .answer ≡ refused k → cycleOf m c .machine ≡ m
   refused-unchanged k = every-way m c (λ (t : Turned). t .answer ≡ refused k → t .machine ≡ m) (record {
-    refuses = λ j e. refl;
+    refuses = λ j n e. refl;
     waits = λ x i e. absurd (accepted-refused _ k e);
     performs = λ e. absurd (accepted-refused _ k e);
+  })
+
+  -- a refusal has a number
+  pub refused-numbered : (k : ℕ) → cycleOf m c .answer ≡ refused k → k ≡ 0 → ⊥
+  refused-numbered k = every-way m c (λ (t : Turned). t .answer ≡ refused k → k ≡ 0 → ⊥) (record {
+    refuses = λ j n e z. n (ap (λ (t : Tells Report). t .number) e ∙ z);
+    waits = λ x i e z. accepted-refused _ k e;
+    performs = λ e z. accepted-refused _ k e;
   })
 
   -- an answer that has a report is an accepted one
   pub reported-accepted : (r : Report) → cycleOf m c .answer .value ≡ some r → cycleOf m c .answer ≡ accepted r
   reported-accepted r = every-way m c (λ (t : Turned). t .answer .value ≡ some r → t .answer ≡ accepted r) (record {
-    refuses = λ k e. absurd (Option·some-ne-none r (sym e));
+    refuses = λ k n e. absurd (Option·some-ne-none r (sym e));
     waits = λ x i e. ap accepted (Option·some-injective _ r e);
     performs = λ e. ap accepted (Option·some-injective _ r e);
   })
@@ -61,7 +69,7 @@ module _ (m : Machine) (c : Words) where
     -- a cycle that is accepted and completes nothing changes only the waiting word, and D by DLE
     pub wait-changes : cycleOf m c .answer ≡ accepted r → r .completed ≡ NoInstruction → cycleOf m c .machine ≡ machineOf (withWaiting (before m c) (Held (c .lines)))
     wait-changes = every-way m c (λ (t : Turned). t .answer ≡ accepted r → r .completed ≡ NoInstruction → t .machine ≡ machineOf (withWaiting (before m c) (Held (c .lines)))) (record {
-      refuses = λ k e. refused-has-none k r e;
+      refuses = λ k n e. refused-has-none k r e;
       waits = λ x i e z. refl;
       performs = λ e z. absurd (completed-differ (told (λ (r : Report). r .completed) _ r e ∙ z));
     })
@@ -70,7 +78,7 @@ module _ (m : Machine) (c : Words) where
     pub completes-or-waits : cycleOf m c .answer ≡ accepted r → completions (r .completed) + waitingWords (cycleOf m c .machine .registers .waiting) ≡ 1
     unfolding settledOf
     completes-or-waits = every-way m c (λ (t : Turned). t .answer ≡ accepted r → completions (r .completed) + waitingWords (t .machine .registers .waiting) ≡ 1) (record {
-      refuses = λ k e. refused-has-none k r e;
+      refuses = λ k n e. refused-has-none k r e;
       waits = λ x i e. sym (told (λ (r : Report). completions (r .completed) + 1) _ r e);
       performs = λ e. sym (told (λ (r : Report). completions (r .completed) + 0) _ r e);
     })
@@ -79,7 +87,7 @@ module _ (m : Machine) (c : Words) where
     pub completes-its-own : cycleOf m c .answer ≡ accepted r
         → (completions (r .completed) ≡ 1 → r .completed ≡ Instruction (namedBy (instructionWord m c)))
     completes-its-own = every-way m c (λ (t : Turned). t .answer ≡ accepted r → completions (r .completed) ≡ 1 → r .completed ≡ Instruction (namedBy (instructionWord m c))) (record {
-      refuses = λ k e. refused-has-none k r e;
+      refuses = λ k n e. refused-has-none k r e;
       waits = λ x i e z.
           let none : _≡_ {A = ℕ} 0 1 = told (λ (r : Report). completions (r .completed)) _ r e ∙ z in
           absurd (omega (arith, none));
@@ -88,7 +96,7 @@ module _ (m : Machine) (c : Words) where
 
     pub waiting-completes : (w : ℕ) → m .registers .waiting ≡ Held w → cycleOf m c .answer ≡ accepted r → r .completed ≡ Instruction (namedBy w)
     waiting-completes w h = every-way m c (λ (t : Turned). t .answer ≡ accepted r → r .completed ≡ Instruction (namedBy w)) (record {
-      refuses = λ k e. refused-has-none k r e;
+      refuses = λ k n e. refused-has-none k r e;
       waits = λ x i e. absurd (held-something (sym h ∙ x));
       performs = λ e. sym (told (λ (r : Report). r .completed) _ r e) ∙ ap (λ (x : Waiting). Instruction (namedBy (wordAbout x (c .lines)))) h;
     })
@@ -98,14 +106,14 @@ module _ (m : Machine) (c : Words) where
             let one : _≡_ {A = ℕ} 1 0 = ap waitingWords q in
             omega (arith, one)
 
-    -- an accepted cycle leaves a machine that may start: a word that is left waiting is one that may wait
-    pub accepted-may-start : cycleOf m c .answer ≡ accepted r → mayStart (cycleOf m c .machine .registers .waiting) ≡ true
-    unfolding settledOf mayStart
-    accepted-may-start = every-way m c (λ (t : Turned). t .answer ≡ accepted r → mayStart (t .machine .registers .waiting) ≡ true) (record {
-      refuses = λ k e. refused-has-none k r e;
-      waits = λ x i e. i;
-      performs = λ e. refl;
-    })
+  -- an accepted cycle leaves a machine that may start: a word that is left waiting is one that may wait
+  pub accepted-may-start : cycleOf m c .answer .number ≡ 0 → mayStart (cycleOf m c .machine .registers .waiting) ≡ true
+  unfolding settledOf mayStart
+  accepted-may-start = every-way m c (λ (t : Turned). t .answer .number ≡ 0 → mayStart (t .machine .registers .waiting) ≡ true) (record {
+    refuses = λ k n e. absurd (n e);
+    waits = λ x i e. i;
+    performs = λ e. refl;
+  })
 
   ien-not-low : ienHigh (c .pins) ≡ true → bothLow (c .pins) ≡ false
   ien-not-low h = ne-eqb (c .pins % 4) 0 (λ z. omega (arith, eqb-true (c .pins % 2) 1 h))
@@ -117,7 +125,7 @@ module _ (m : Machine) (c : Words) where
   pub status-kept : bothLow (c .pins) ≡ false → cycleOf m c .machine .registers .status ≡ m .registers .status
   unfolding settledOf
   status-kept h = every-way m c (λ (t : Turned). t .machine .registers .status ≡ m .registers .status) (record {
-    refuses = λ k. refl;
+    refuses = λ k n. refl;
     waits = λ x i. refl;
     performs = unpicked (bothLow (c .pins)) _ (m .registers .status) h;
   })
@@ -130,7 +138,7 @@ module _ (m : Machine) (c : Words) where
   unfolding settledOf
   ien-high-keeps h =
       let kept : Kept (cycleOf m c) = every-way m c Kept (record {
-        refuses = λ k. (refl, refl);
+        refuses = λ k n. (refl, refl);
         waits = λ x i. (refl, refl);
         performs = (picked (ienHigh (c .pins)) (m .registers .ram) _ h, picked (ienHigh (c .pins)) (m .registers .acc) _ h);
       }) in

@@ -121,7 +121,7 @@ module _ (m : Machine) (c : Words) (small : m .registers .status < 256) where
   pub shown-in-mask : (rep : Report) → cycleOf m c .answer ≡ accepted rep → KnownBits (rep .y) (rep .mask)
   unfolding planOf
   shown-in-mask rep = every-way m c (λ (t : Turned). t .answer ≡ accepted rep → KnownBits (rep .y) (rep .mask)) (record {
-    refuses = λ k e. absurd (accepted-refused rep k (sym e));
+    refuses = λ k n e. absurd (accepted-refused rep k (sym e));
     waits = λ x i e. told rep _ e (known 0 0 (inl refl) zero-le);
     performs = λ e. told rep _ e (shown-or-not (oeYHigh (c .pins)) _ _ effect-known);
   })

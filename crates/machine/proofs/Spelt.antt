@@ -95,7 +95,7 @@ module _ (m : Machine) (c : Words) (rep : Report) (answered : cycleOf m c .answe
   completed-leaves =
       let p : Plan = planOf (namedBy w) in
       every-way m c (λ (t : Turned). t .answer ≡ accepted rep → t .machine ≡ leftBy p) (record {
-        refuses = λ k e. absurd (accepted-refused rep k (sym e));
+        refuses = λ k n e. absurd (accepted-refused rep k (sym e));
         waits = λ x i e.
             let none : _≡_ {A = ℕ} 0 1 = ap (λ (r : Report). completions (r .completed)) (accepted-one _ rep e) ∙ completed in
             absurd (omega (arith, none));

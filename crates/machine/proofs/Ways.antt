@@ -1,9 +1,10 @@
 -- The ways that a cycle can go: it is refused, or leaves its word waiting, or performs the instruction of the word that it is about. What
--- holds of each way holds of the cycle: `every-way`, at the end.
+-- holds of each way holds of the cycle: `every-way`, at the end. A refusal has a number.
 use mathlib.Core.Path.{_≡_, refl}
 use mathlib.Core.Bool.{Bool, true, false}
 use Prim.Native.Nat.{ℕ}
 use lib.Dec.{eqb}
+use borrow.Author.Tests.{eqb-false}
 use Rattle.choice.specs.Pick.{pick}
 use Rattle.choice.specs.Checks.{refusal}
 use Rattle.isa.specs.declared.Named.{Named}
@@ -25,7 +26,7 @@ module _ (m : Machine) (c : Words) where
   performed x = performedTurn (named x) (planOf (named x)) (before m c) (operandAbout x (c .lines)) (c .pins)
 
   pub record Ways (x : Waiting) (P : Turned → Type 0) : Type 0 where
-    pub refuses : (k : ℕ) → P (refusedTurn m k)
+    pub refuses : (k : ℕ) → (k ≡ 0 → ⊥) → P (refusedTurn m k)
     pub waits : x ≡ Nothing → takesImmediate (c .lines) ≡ true → P (waitingTurn (before m c) c)
     pub performs : P (performed x)
 
@@ -40,11 +41,11 @@ module _ (m : Machine) (c : Words) where
 
     way-from : (x : Waiting) → Ways x P → P (turnOf (judgementOf x c) m (before m c) c)
     unfolding judgementOf
-    way-from x w = by-test (eqb (refusal (checksOf x c)) 0)
+    way-from x w = by-test (eqb (refusal (checksOf x c)) 0) refl
       where
-        by-test : (b : Bool) → P (turnOf (pick b (acceptedAs x c) (Refuse (refusal (checksOf x c)))) m (before m c) c)
-        by-test true = accepted-way x w
-        by-test false = w .refuses (refusal (checksOf x c))
+        by-test : (b : Bool) → eqb (refusal (checksOf x c)) 0 ≡ b → P (turnOf (pick b (acceptedAs x c) (Refuse (refusal (checksOf x c)))) m (before m c) c)
+        by-test true e = accepted-way x w
+        by-test false e = w .refuses (refusal (checksOf x c)) (eqb-false (refusal (checksOf x c)) 0 e)
 
     pub every-way : Ways (m .registers .waiting) P → P (cycleOf m c)
     unfolding cycleOf
