@@ -15,7 +15,7 @@ use Rattle.choice.specs.Pick.{pick}
 use Rattle.choice.specs.Checks.{Check, check, refusal, clear}
 use Rattle.choice.specs.Tells.{Tells, accepted, refused, tells}
 use Rattle.choice.proofs.Spans.{never}
-use Rattle.choice.proofs.Checks.{positive, exactly, cleared}
+use Rattle.choice.proofs.Checks.{positive, exactly, cleared, passed}
 use Rattle.choice.proofs.Tells.{accepted-one, refused-one, accepted-refused, told-accepted, told-number}
 use Rattle.isa.specs.declared.Family.{Family}
 use Rattle.isa.specs.declared.Row.{Row}
@@ -305,6 +305,32 @@ module _ (n : Named) where
   named-nine =
       let e = by-nine (not listed) acc bit in
       exactly-told 9 (refusal (namedChecks n)) (wordFor n) (λ h. (not-false listed (e .0 h .0), e .0 h .1, e .0 h .2), λ h. e .1 (ap not (h .0), h .1, h .2))
+
+-- a word that a family takes, and the instruction that it names: that one is of the list too, and gets the same number
+module _ (f : Family) (w : ℕ) (h : w < 0x10000) (t : InFamily f w) where
+  row-in : namedRow (namedBy w) ≡ wordRow w
+  row-in = ap (λ (f : Family). rowAt (numberOf f)) (family-in f w t) ∙ ap rowAt (sym (number-in f w t))
+
+  mark-in : markFor (modeOf (markOf w)) ≡ markOf w
+  mark-in = mark-back (markOf w) (omega arith)
+
+  pub named-in : takes (namedRow (namedBy w)) (markFor (modeOf (markOf w))) (fieldA w) (fieldB w) (fieldC w) ≡ true
+  named-in =
+      ap (λ (r : Row). takes r (markFor (modeOf (markOf w))) (fieldA w) (fieldB w) (fieldC w)) row-in
+      ∙ ap (λ (m : ℕ). takes (wordRow w) m (fieldA w) (fieldB w) (fieldC w)) mark-in
+      ∙ ap (λ (i : ℕ). takes (rowAt i) (markOf w) (fieldA w) (fieldB w) (fieldC w)) (number-in f w t)
+      ∙ t .fields
+
+  pub number-of-named : encodeOf (namedBy w) .number ≡ decodeOf w .number
+  unfolding encodeOf decodeOf
+  number-of-named =
+      let m = markFor (modeOf (markOf w)) in
+      told-number (refusal (namedChecks (namedBy w))) (wordFor (namedBy w))
+      ∙ passed 7 (not (takes (namedRow (namedBy w)) m (fieldA w) (fieldB w) (fieldC w))) (ruleChecks (namedRow (namedBy w)) m (fieldA w) (fieldB w)) (ap not named-in)
+      ∙ ap (λ (r : Row). refusal (ruleChecks r m (fieldA w) (fieldB w))) row-in
+      ∙ ap (λ (m : ℕ). refusal (ruleChecks (wordRow w) m (fieldA w) (fieldB w))) mark-in
+      ∙ sym (passed 7 (leb noRow (wordNumber w)) (ruleChecks (wordRow w) (markOf w) (fieldA w) (fieldB w)) (taken-listed w f t))
+      ∙ sym (told-number (refusal (wordChecks w)) (namedBy w))
 
 -- what an answer tells fixes the answer
 decoded-one : (r s : Decoded) → decodedTells r ≡ decodedTells s → r ≡ s

@@ -1,38 +1,34 @@
 -- What holds of the plans of all instructions of the list: one test over the fields of each family, and what it says.
-use mathlib.Core.Path.{_≡_, _∙_, sym, ap}
+use Prim.{Unit}
+use mathlib.Core.Path.{_≡_, refl, _∙_, sym, ap}
 use mathlib.Core.Bool.{Bool, true, false}
-use mathlib.Core.List.{[], _∷_}
+use mathlib.Core.List.{List, [], _∷_}
 use Prim.Native.Nat.{ℕ, _<_}
 use native.Mathlib.Nat.{mod-eq-of-lt}
-use lib.Dec.{T}
-use Rattle.choice.specs.Pick.{pick}
+use lib.Dec.{T, eqb}
 use Rattle.choice.specs.Along.{same}
 use Rattle.choice.specs.Tells.{Tells, accepted}
-use Rattle.choice.proofs.Spans.{span, below, both, where-held, never, holds}
+use Rattle.choice.proofs.Spans.{span, below, where-held, never}
 use Rattle.choice.proofs.Decisions.{same-eq}
-use Rattle.choice.proofs.Checks.{cleared}
-use Rattle.choice.specs.Checks.{check}
 use Rattle.isa.specs.declared.Family.{Family}
 use Rattle.isa.specs.declared.Family.the-variants.{Tor1, Rotr1, Rotr2, Rotc, Rotm, Sor, Bor2, Tor2, Shftr, Crcf, Crcr, Prt1, Prt2, Prt3, Svstr, Sonr, Tonr, Shftnr, Bor1, Bonr, Rotnr, Prtnr, Svstnr, Setst, Rstst, Test, Noop}
 use Rattle.isa.specs.declared.Named.{Named}
 use Rattle.isa.specs.declared.Row.{Row}
 use Rattle.isa.specs.Fields.{modeOf, markOf, markFor}
 use Rattle.isa.specs.Sets.{has}
-use Rattle.isa.specs.Table.{rowAt, numberOf}
-use Rattle.isa.specs.Words.{namedRow, accTwice, bitTooHigh, asksI, namesI as wordNamesI, decodeOf, encodeOf, takesImmediate}
-use native.Mathlib.Omega.{arith}
-use Rattle.isa.proofs.Laws.{encode-decode, encode-takes, encode-rule, decode-named}
+use Rattle.isa.specs.Table.{rowAt, numberOf, bitInMode}
+use Rattle.isa.specs.Words.{namedRow, accTwice, asksI, namesI as wordNamesI, decodeOf, takesImmediate}
+use Rattle.isa.proofs.Laws.{encode-decode, encode-takes, decode-named}
 use Rattle.isa.proofs.Families.{own-row, narrow}
 use Rattle.isa.proofs.Takes.{Taken, taken, small}
-use Rattle.plan.specs.declared.Source.the-variants.{Acc}
 use Rattle.plan.specs.declared.Task.{Task}
 use Rattle.plan.specs.declared.Task.the-variants.{NoOperation, TwoOperand, OneOperand, Bit, Shift, Rotate, Merge, Compare, Prioritize, CrcForward, CrcReverse, SaveStatus, SetStatus, ResetStatus, TestStatus}
 use Rattle.plan.specs.declared.Work.{Work}
 use Rattle.plan.specs.declared.Plan.{Plan}
-use Rattle.plan.specs.Numbers.{sameSource, sameDestination}
+use Rattle.plan.specs.Numbers.{sameDestination}
 use Rattle.plan.specs.Tables.{back}
 use Rattle.plan.specs.Plans.{workOf, planOf}
-use Rattle.plan.specs.Reading.{namesI, writesRam}
+use Rattle.plan.specs.Reading.{namesI, writesRam, isBit, accUnderAcc}
 use Rattle.plan.specs.Listed.{Listed, toRam}
 use Rattle.plan.proofs.Sound.{destination-sound}
 
@@ -53,42 +49,37 @@ isMerge (SetStatus bits) = false
 isMerge (ResetStatus bits) = false
 isMerge TestStatus = false
 
-abbrev isPrioritize : Task → Bool
-isPrioritize NoOperation = false
-isPrioritize (TwoOperand k) = false
-isPrioritize (OneOperand k) = false
-isPrioritize (Bit k) = false
-isPrioritize (Shift k) = false
-isPrioritize Rotate = false
-isPrioritize Merge = false
-isPrioritize Compare = false
-isPrioritize Prioritize = true
-isPrioritize CrcForward = false
-isPrioritize CrcReverse = false
-isPrioritize SaveStatus = false
-isPrioritize (SetStatus bits) = false
-isPrioritize (ResetStatus bits) = false
-isPrioritize TestStatus = false
-
 -- a merge goes where its R is
 goesBack : Work → Bool
 goesBack w = elim (isMerge (w .task)) [ true ↦ sameDestination (w .destination) (back (w .operands .second)) | false ↦ true ]
 
--- ACC is not a prioritize's source and mask at once, unless the rule of 8 refuses the instruction
-oneAcc : Family → ℕ → ℕ → Work → Bool
-oneAcc f a b w =
-    elim (isPrioritize (w .task)) [
-      | true ↦ pick (sameSource (w .operands .first) Acc) (pick (sameSource (w .operands .mask) Acc) (accTwice (rowAt (numberOf f)) a b) true) true
-      | false ↦ true
-    ]
+-- all that is said of one work: I and RAM are where isa and document 01 have them, the rules of 8 and 9 are where it prioritizes ACC under ACC
+-- and where it is a bit operation, and a merge goes back
+tests : Family → ℕ → ℕ → Work → List Bool
+tests f a b w =
+    same (namesI w) (asksI (rowAt (numberOf f)) a b)
+    ∷ same (writesRam w) (toRam f a b)
+    ∷ same (accUnderAcc w) (accTwice (rowAt (numberOf f)) a b)
+    ∷ same (isBit (w .task)) (eqb (rowAt (numberOf f) .rule) bitInMode)
+    ∷ goesBack w
+    ∷ []
 
--- all that is said of one work: I and RAM are where isa and document 01 have them, and the two rules above
+-- tests up to the first that fails, and what it says that none does
+abbrev every : List Bool → Bool
+every [] = true
+every (t ∷ ts) = elim t [ true ↦ every ts | false ↦ false ]
+
+abbrev Hold : List Bool → Type 0
+Hold [] = Unit {0}
+Hold (t ∷ ts) = (t ≡ true) × Hold ts
+
+all-hold : (ts : List Bool) → T (every ts) → Hold ts
+all-hold [] h = tt
+all-hold (true ∷ ts) h = (refl, all-hold ts h)
+all-hold (false ∷ ts) h = absurd h
+
 good : Family → ℕ → ℕ → Work → Bool
-good f a b w =
-    elim (same (namesI w) (asksI (rowAt (numberOf f)) a b)) [
-      | true ↦ elim (same (writesRam w) (toRam f a b)) [ true ↦ elim (goesBack w) [ true ↦ oneAcc f a b w | false ↦ false ] | false ↦ false ]
-      | false ↦ false
-    ]
+good f a b w = every (tests f a b w)
 
 -- a test over the values of A and B that a family has
 over : Family → (ℕ → ℕ → Bool) → Bool
@@ -114,9 +105,14 @@ over-at f g t a b c h =
     (below (λ a. span 0 16 (λ b. elim (has (r .a) a) [ true ↦ elim (has (r .b) b) [ true ↦ g a b | false ↦ true ] | false ↦ true ])) 16 a t (h .small-a)) (h .small-b))
     (h .in-a)) (h .in-b)
 
+-- a test that is asked only where another holds
+asked : (b d : Bool) → elim b [ true ↦ d | false ↦ true ] ≡ true → b ≡ true → d ≡ true
+asked true d h e = h
+asked false d h e = absurd (never e)
+
 -- where the work does not depend on C, the test is over A and B, and else over C too
 all-good : (f : Family) (a b c : ℕ) → Fields f a b c → T (good f a b (workOf f a b c))
-unfolding over good goesBack oneAcc workOf
+unfolding over good tests goesBack workOf
 all-good Tor1 a b c h = over-at Tor1 (λ a b. good Tor1 a b (workOf Tor1 a b c)) tt a b c h
 all-good Rotr1 a b c h = over-at Rotr1 (λ a b. good Rotr1 a b (workOf Rotr1 a b c)) tt a b c h
 all-good Rotr2 a b c h = over-at Rotr2 (λ a b. good Rotr2 a b (workOf Rotr2 a b c)) tt a b c h
@@ -155,7 +151,11 @@ module _ (n : Named) (listed : Listed n) where
   in-range : (n .a < 16) × (n .b < 16) × (n .c < 32)
   in-range = small row (markFor (n .mode)) (n .a) (n .b) (n .c) (narrow (numberOf (n .family)) (own-row (n .family) .0)) listed
 
-  -- its fields are in their range, so the plan is that of the fields as they are
+  -- its fields are in their range, so the plan's n is A, and its work that of the fields as they are
+  pub plan-n : planOf n .n ≡ n .a
+  unfolding planOf
+  plan-n = mod-eq-of-lt (in-range .0)
+
   whole-fields : planOf n .work ≡ workOf (n .family) (n .a) (n .b) (n .c)
   unfolding planOf
   whole-fields = rw (mod-eq-of-lt (in-range .0), mod-eq-of-lt (in-range .1), mod-eq-of-lt (in-range .2))
@@ -169,42 +169,36 @@ module _ (n : Named) (listed : Listed n) where
   abbrev w : Work
   w = planOf n .work
 
-  parts : T (same (namesI w) (asksI row (n .a) (n .b))) × T (same (writesRam w) (toRam (n .family) (n .a) (n .b))) × T (goesBack w) × T (oneAcc (n .family) (n .a) (n .b) w)
+  held : Hold (tests (n .family) (n .a) (n .b) w)
   unfolding good
-  parts =
-      let x = both (same (namesI w) (asksI row (n .a) (n .b))) (elim (same (writesRam w) (toRam (n .family) (n .a) (n .b))) [ true ↦ elim (goesBack w) [ true ↦ oneAcc (n .family) (n .a) (n .b) w | false ↦ false ] | false ↦ false ]) is-good in
-      let y = both (same (writesRam w) (toRam (n .family) (n .a) (n .b))) (elim (goesBack w) [ true ↦ oneAcc (n .family) (n .a) (n .b) w | false ↦ false ]) (x .1) in
-      let z = both (goesBack w) (oneAcc (n .family) (n .a) (n .b) w) (y .1) in
-      (x .0, y .0, z .0, z .1)
+  held = all-hold (tests (n .family) (n .a) (n .b) w) is-good
 
   -- the plan names I exactly when isa says that there is an I operand
   pub immediate-agrees : namesI (planOf n .work) ≡ asksI (namedRow n) (n .a) (n .b)
-  immediate-agrees = same-eq (namesI w) (asksI row (n .a) (n .b)) (holds (same (namesI w) (asksI row (n .a) (n .b))) (parts .0))
+  unfolding tests
+  immediate-agrees = same-eq (namesI w) (asksI row (n .a) (n .b)) (held .0)
 
   -- the plan writes RAM exactly when document 01 sends the instruction there
   pub ram-agrees : writesRam (planOf n .work) ≡ toRam (n .family) (n .a) (n .b)
-  ram-agrees = same-eq (writesRam w) (toRam (n .family) (n .a) (n .b)) (holds (same (writesRam w) (toRam (n .family) (n .a) (n .b))) (parts .1))
+  unfolding tests
+  ram-agrees = same-eq (writesRam w) (toRam (n .family) (n .a) (n .b)) (held .1 .0)
+
+  -- it prioritizes ACC under ACC exactly when the rule of 8 is broken
+  pub acc-agrees : accUnderAcc (planOf n .work) ≡ accTwice (namedRow n) (n .a) (n .b)
+  unfolding tests
+  acc-agrees = same-eq (accUnderAcc w) (accTwice row (n .a) (n .b)) (held .1 .1 .0)
+
+  -- it is a bit operation exactly when its family has the rule of 9
+  pub bit-agrees : isBit (planOf n .work .task) ≡ eqb (namedRow n .rule) bitInMode
+  unfolding tests
+  bit-agrees = same-eq (isBit (w .task)) (eqb (row .rule) bitInMode) (held .1 .1 .1 .0)
 
   -- a merge's destination is its R
   pub merge-goes-back : planOf n .work .task ≡ Merge → planOf n .work .destination ≡ back (planOf n .work .operands .second)
-  unfolding goesBack
+  unfolding tests goesBack
   merge-goes-back e =
-      let t = where-held (isMerge (w .task)) (sameDestination (w .destination) (back (w .operands .second))) (parts .2) (ap isMerge e) in
-      destination-sound (w .destination) (back (w .operands .second)) (holds (sameDestination (w .destination) (back (w .operands .second))) t)
-
-  -- a prioritize with ACC as source and as mask is one that the rule of 8 refuses
-  pub acc-twice : planOf n .work .task ≡ Prioritize → planOf n .work .operands .first ≡ Acc → planOf n .work .operands .mask ≡ Acc → accTwice (namedRow n) (n .a) (n .b) ≡ true
-  unfolding oneAcc
-  acc-twice e f g =
-      let t = where-held (isPrioritize (w .task)) (pick (sameSource (w .operands .first) Acc) (pick (sameSource (w .operands .mask) Acc) (accTwice row (n .a) (n .b)) true) true) (parts .3) (ap isPrioritize e) in
-      holds (accTwice row (n .a) (n .b)) (rw (f, g) at t)
-
--- so an accepted instruction has none
-pub never-acc-twice : (n : Named) (w : ℕ) → encodeOf n ≡ accepted w → planOf n .work .task ≡ Prioritize → planOf n .work .operands .first ≡ Acc → planOf n .work .operands .mask ≡ Acc → ⊥
-never-acc-twice n w e t f g =
-    let twice = acc-twice n (encode-takes n w e) t f g in
-    let rest = cleared 8 (accTwice (namedRow n) (n .a) (n .b)) (check 9 (bitTooHigh (namedRow n) (markFor (n .mode)) (n .a)) ∷ []) (λ z. omega arith) (encode-rule n w e) in
-    never (sym (rest .0) ∙ twice)
+      let to = sameDestination (w .destination) (back (w .operands .second)) in
+      destination-sound (w .destination) (back (w .operands .second)) (asked (isMerge (w .task)) to (held .1 .1 .1 .1 .0) (ap isMerge e))
 
 -- the words: a word takes an I operand exactly when its plan names I, and its plan has the mode of its mark
 module _ (w : ℕ) (h : w < 0x10000) (n : Named) (e : decodeOf w ≡ accepted n) where
