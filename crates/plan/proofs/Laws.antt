@@ -28,7 +28,7 @@ use Rattle.plan.specs.declared.Plan.{Plan}
 use Rattle.plan.specs.Numbers.{sameDestination}
 use Rattle.plan.specs.Tables.{back}
 use Rattle.plan.specs.Plans.{workOf, planOf}
-use Rattle.plan.specs.Reading.{namesI, writesRam, isBit, accUnderAcc}
+use Rattle.plan.specs.Reading.{namesI, writesRam, isBit, accUnderAcc, isRamAccOrLatch}
 use Rattle.plan.specs.Listed.{Listed, toRam}
 use Rattle.plan.proofs.Sound.{destination-sound}
 
@@ -49,19 +49,17 @@ isMerge (SetStatus bits) = false
 isMerge (ResetStatus bits) = false
 isMerge TestStatus = false
 
--- a merge goes where its R is
-goesBack : Work → Bool
-goesBack w = elim (isMerge (w .task)) [ true ↦ sameDestination (w .destination) (back (w .operands .second)) | false ↦ true ]
-
 -- all that is said of one work: I and RAM are where isa and document 01 have them, the rules of 8 and 9 are where it prioritizes ACC under ACC
--- and where it is a bit operation, and a merge goes back
+-- and where it is a bit operation, a merge goes where its R is, and what goes back comes from RAM, ACC or D
 tests : Family → ℕ → ℕ → Work → List Bool
 tests f a b w =
     same (namesI w) (asksI (rowAt (numberOf f)) a b)
     ∷ same (writesRam w) (toRam f a b)
     ∷ same (accUnderAcc w) (accTwice (rowAt (numberOf f)) a b)
     ∷ same (isBit (w .task)) (eqb (rowAt (numberOf f) .rule) bitInMode)
-    ∷ goesBack w
+    ∷ elim (isMerge (w .task)) [ true ↦ sameDestination (w .destination) (back (w .operands .second)) | false ↦ true ]
+    ∷ elim (isMerge (w .task)) [ true ↦ isRamAccOrLatch (w .operands .second) | false ↦ true ]
+    ∷ elim (isBit (w .task)) [ true ↦ isRamAccOrLatch (w .operands .first) | false ↦ true ]
     ∷ []
 
 -- tests up to the first that fails, and what it says that none does
@@ -87,13 +85,14 @@ over f g =
     span 0 16 (λ a. span 0 16 (λ b.
     elim (has (rowAt (numberOf f) .a) a) [ true ↦ elim (has (rowAt (numberOf f) .b) b) [ true ↦ g a b | false ↦ true ] | false ↦ true ]))
 
--- fields in their range, of which A and B are in the family's lists
+-- fields in their range and in the family's lists
 pub record Fields (f : Family) (a b c : ℕ) : Type 0 where
   pub small-a : a < 16
   pub small-b : b < 16
   pub small-c : c < 32
   pub in-a : has (rowAt (numberOf f) .a) a ≡ true
   pub in-b : has (rowAt (numberOf f) .b) b ≡ true
+  pub in-c : has (rowAt (numberOf f) .c) c ≡ true
 
 over-at : (f : Family) (g : ℕ → ℕ → Bool) → T (over f g) → (a b c : ℕ) → Fields f a b c → T (g a b)
 unfolding over
@@ -112,7 +111,7 @@ asked false d h e = absurd (never e)
 
 -- where the work does not depend on C, the test is over A and B, and else over C too
 all-good : (f : Family) (a b c : ℕ) → Fields f a b c → T (good f a b (workOf f a b c))
-unfolding over good tests goesBack workOf
+unfolding over good tests workOf
 all-good Tor1 a b c h = over-at Tor1 (λ a b. good Tor1 a b (workOf Tor1 a b c)) tt a b c h
 all-good Rotr1 a b c h = over-at Rotr1 (λ a b. good Rotr1 a b (workOf Rotr1 a b c)) tt a b c h
 all-good Rotr2 a b c h = over-at Rotr2 (λ a b. good Rotr2 a b (workOf Rotr2 a b c)) tt a b c h
@@ -160,11 +159,18 @@ module _ (n : Named) (listed : Listed n) where
   unfolding planOf
   whole-fields = rw (mod-eq-of-lt (in-range .0), mod-eq-of-lt (in-range .1), mod-eq-of-lt (in-range .2))
 
+  pub fields : Fields (n .family) (n .a) (n .b) (n .c)
+  fields = record {
+    small-a = in-range .0;
+    small-b = in-range .1;
+    small-c = in-range .2;
+    in-a = has-all .in-a;
+    in-b = has-all .in-b;
+    in-c = has-all .in-c;
+  }
+
   is-good : T (good (n .family) (n .a) (n .b) (planOf n .work))
-  is-good =
-      rw whole-fields
-      (all-good (n .family) (n .a) (n .b) (n .c)
-      (record { small-a = in-range .0; small-b = in-range .1; small-c = in-range .2; in-a = has-all .in-a; in-b = has-all .in-b }))
+  is-good = rw whole-fields (all-good (n .family) (n .a) (n .b) (n .c) fields)
 
   abbrev w : Work
   w = planOf n .work
@@ -195,10 +201,19 @@ module _ (n : Named) (listed : Listed n) where
 
   -- a merge's destination is its R
   pub merge-goes-back : planOf n .work .task ≡ Merge → planOf n .work .destination ≡ back (planOf n .work .operands .second)
-  unfolding tests goesBack
+  unfolding tests
   merge-goes-back e =
       let to = sameDestination (w .destination) (back (w .operands .second)) in
       destination-sound (w .destination) (back (w .operands .second)) (asked (isMerge (w .task)) to (held .1 .1 .1 .1 .0) (ap isMerge e))
+
+  -- a merge's R and a bit operation's source are RAM, ACC or D
+  pub merge-from : planOf n .work .task ≡ Merge → isRamAccOrLatch (planOf n .work .operands .second) ≡ true
+  unfolding tests
+  merge-from e = asked (isMerge (w .task)) (isRamAccOrLatch (w .operands .second)) (held .1 .1 .1 .1 .1 .0) (ap isMerge e)
+
+  pub bit-from : isBit (planOf n .work .task) ≡ true → isRamAccOrLatch (planOf n .work .operands .first) ≡ true
+  unfolding tests
+  bit-from e = asked (isBit (w .task)) (isRamAccOrLatch (w .operands .first)) (held .1 .1 .1 .1 .1 .1 .0) e
 
 -- the words: a word takes an I operand exactly when its plan names I, and its plan has the mode of its mark
 module _ (w : ℕ) (h : w < 0x10000) (n : Named) (e : decodeOf w ≡ accepted n) where

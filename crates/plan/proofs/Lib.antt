@@ -2,3 +2,4 @@ pub mod Sound
 pub mod Told
 pub mod Laws
 pub mod Refused
+pub mod Reached

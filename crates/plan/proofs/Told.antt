@@ -15,7 +15,7 @@ use Rattle.plan.specs.declared.Source.{Source}
 use Rattle.plan.specs.declared.Source.the-variants.{Latch}
 use Rattle.plan.specs.declared.Destination.{Destination}
 use Rattle.plan.specs.Numbers.{sameTwoOperandKind, sameOneOperandKind, sameBitKind, sameShiftKind, sameSource, sameDestination}
-use Rattle.plan.specs.Tables.{shiftSource}
+use Rattle.plan.specs.Tables.{at, shiftSource}
 use Rattle.plan.proofs.Sound.{twoOperandKind-sound, oneOperandKind-sound, bitKind-sound, shiftKind-sound, source-sound, destination-sound}
 
 pub told-two-operand : (n : ℕ) (f : ℕ → TwoOperandKind) (x : ℕ) (r : TwoOperandKind) → Along sameTwoOperandKind n f x r → x < n → r ≡ f x
@@ -37,7 +37,7 @@ pub told-destination : (n : ℕ) (f : ℕ → Destination) (x : ℕ) (r : Destin
 told-destination = along-by sameDestination destination-sound
 
 -- the family's own source stands at 6 alone
-pub shift-latch : (own : Source) (a : ℕ) → (a ≡ 6 → ⊥) → Latch ≡ shiftSource own a
+pub shift-latch : (own : Source) (a : ℕ) → (a ≡ 6 → ⊥) → Latch ≡ at (shiftSource own) a
 shift-latch own a n = by-test (eqb 6 a) (eqb 7 a) refl
   where
     by-test : (six seven : Bool) → eqb 6 a ≡ six → Latch ≡ elim six [ true ↦ own | false ↦ elim seven [ true ↦ Latch | false ↦ Latch ] ]

@@ -16,7 +16,7 @@ use Rattle.plan.specs.declared.Task.the-variants.{NoOperation, TwoOperan
 use Rattle.plan.specs.declared.Operands.{Operands}
 use Rattle.plan.specs.declared.Work.{Work}
 use Rattle.plan.specs.declared.Plan.{Plan}
-use Rattle.plan.specs.Tables.{twoOperandAt, oneOperandAt, shiftAt, bor2At, bor1At, bonrAt, statusBitsAt, ramPairR, ramPairS, pairR, pairS, sourceAt, prt1Source, maskAt, rotateU, rotateR, rotateMask, shiftSource, bonrSource, rotnrSource, ramPairTo, rotr1To, sorTo, prt1To, prt2To, noRamTo, back, bitTo, rotnrTo}
+use Rattle.plan.specs.Tables.{Looking, asPrinted, twoOperands, oneOperands, shifts, bor2Bits, bor1Bits, bonrBits, statusBits, ramPairR, ramPairS, pairR, pairS, sources, prt1Source, maskSource, rotateU, rotateR, rotateMask, shiftSource, bonrSource, rotnrSource, ramPairTo, rotr1To, sorTo, prt1To, prt2To, noRamTo, back, bitTo, rotnrTo}
 
 -- one operand, or none where it is Zero; two, R and S or a register and ACC; a source and its mask; U, R and the mask
 abbrev pub one : Source → Operands
@@ -47,38 +47,46 @@ idle t c = record { task = t; operands = one Zero; destination = ToY; shown = No
 abbrev pub bitWork : BitKind → Source → Work
 bitWork k s = atWidth (Bit k) (one s) (bitTo k s)
 
+-- the work of each family by its fields, whatever the way in which tables are looked up
+module _ (l : Looking) where
+  open Looking l using (look)
+
+  abbrev pub workBy : Family → ℕ → ℕ → ℕ → Work
+  -- Q0
+  workBy Tor1 a b c = atWidth (TwoOperand (look twoOperands b)) (two (look ramPairR a) (look ramPairS a)) (look ramPairTo a)
+  workBy Rotr1 a b c = atWidth Rotate (one Ram) (look rotr1To b)
+  -- Q1
+  workBy Rotr2 a b c = atWidth Rotate (one (look rotateU b)) ToRam
+  workBy Rotc a b c = atWidth Compare (three (look rotateU b) (look rotateR b) (look rotateMask b)) ToY
+  workBy Rotm a b c = atWidth Merge (three (look rotateU b) (look rotateR b) (look rotateMask b)) (back (look rotateR b))
+  -- Q2
+  workBy Sor a b c = atWidth (OneOperand (look oneOperands a)) (one (look sources b)) (look sorTo b)
+  workBy Bor2 a b c = bitWork (look bor2Bits b) Ram
+  workBy Tor2 a b c = atWidth (TwoOperand (look twoOperands b)) (two (look pairR a) (look pairS a)) ToRam
+  workBy Shftr a b c = atWidth (Shift (look shifts b)) (one (look (shiftSource Ram) a)) ToRam
+  workBy Crcf a b c = atWidth CrcForward (two Ram Acc) ToRam
+  workBy Crcr a b c = atWidth CrcReverse (two Ram Acc) ToRam
+  workBy Prt1 a b c = whole Prioritize (masked (look prt1Source b) Ram) (look prt1To a)
+  workBy Prt2 a b c = whole Prioritize (masked Ram (look maskSource a)) (look prt2To b)
+  workBy Prt3 a b c = whole Prioritize (masked (look sources b) (look maskSource a)) ToRam
+  workBy Svstr a b c = whole SaveStatus (one Zero) ToRam
+  -- Q3
+  workBy Sonr a b c = atWidth (OneOperand (look oneOperands a)) (one (look sources b)) (look noRamTo c)
+  workBy Tonr a b c = atWidth (TwoOperand (look twoOperands b)) (two (look pairR a) (look pairS a)) (look noRamTo c)
+  workBy Shftnr a b c = atWidth (Shift (look shifts b)) (one (look (shiftSource Acc) a)) (look noRamTo c)
+  workBy Bor1 a b c = bitWork (look bor1Bits b) Ram
+  workBy Bonr a b c = bitWork (look bonrBits c) (look bonrSource c)
+  workBy Rotnr a b c = atWidth Rotate (one (look rotnrSource c)) (look rotnrTo c)
+  workBy Prtnr a b c = whole Prioritize (masked (look sources b) (look maskSource a)) (look noRamTo c)
+  workBy Svstnr a b c = whole SaveStatus (one Zero) (look noRamTo c)
+  workBy Setst a b c = whole (SetStatus (look statusBits c)) (one Zero) ToY
+  workBy Rstst a b c = whole (ResetStatus (look statusBits c)) (one Zero) ToY
+  workBy Test a b c = idle TestStatus (Instruction (c / 2))
+  workBy Noop a b c = idle NoOperation Pins
+
+-- the work that is meant: tables are looked up as they are printed
 unfoldable pub workOf : Family → ℕ → ℕ → ℕ → Work
--- Q0
-workOf Tor1 a b c = atWidth (TwoOperand (twoOperandAt b)) (two (ramPairR a) (ramPairS a)) (ramPairTo a)
-workOf Rotr1 a b c = atWidth Rotate (one Ram) (rotr1To b)
--- Q1
-workOf Rotr2 a b c = atWidth Rotate (one (rotateU b)) ToRam
-workOf Rotc a b c = atWidth Compare (three (rotateU b) (rotateR b) (rotateMask b)) ToY
-workOf Rotm a b c = atWidth Merge (three (rotateU b) (rotateR b) (rotateMask b)) (back (rotateR b))
--- Q2
-workOf Sor a b c = atWidth (OneOperand (oneOperandAt a)) (one (sourceAt b)) (sorTo b)
-workOf Bor2 a b c = bitWork (bor2At b) Ram
-workOf Tor2 a b c = atWidth (TwoOperand (twoOperandAt b)) (two (pairR a) (pairS a)) ToRam
-workOf Shftr a b c = atWidth (Shift (shiftAt b)) (one (shiftSource Ram a)) ToRam
-workOf Crcf a b c = atWidth CrcForward (two Ram Acc) ToRam
-workOf Crcr a b c = atWidth CrcReverse (two Ram Acc) ToRam
-workOf Prt1 a b c = whole Prioritize (masked (prt1Source b) Ram) (prt1To a)
-workOf Prt2 a b c = whole Prioritize (masked Ram (maskAt a)) (prt2To b)
-workOf Prt3 a b c = whole Prioritize (masked (sourceAt b) (maskAt a)) ToRam
-workOf Svstr a b c = whole SaveStatus (one Zero) ToRam
--- Q3
-workOf Sonr a b c = atWidth (OneOperand (oneOperandAt a)) (one (sourceAt b)) (noRamTo c)
-workOf Tonr a b c = atWidth (TwoOperand (twoOperandAt b)) (two (pairR a) (pairS a)) (noRamTo c)
-workOf Shftnr a b c = atWidth (Shift (shiftAt b)) (one (shiftSource Acc a)) (noRamTo c)
-workOf Bor1 a b c = bitWork (bor1At b) Ram
-workOf Bonr a b c = bitWork (bonrAt c) (bonrSource c)
-workOf Rotnr a b c = atWidth Rotate (one (rotnrSource c)) (rotnrTo c)
-workOf Prtnr a b c = whole Prioritize (masked (sourceAt b) (maskAt a)) (noRamTo c)
-workOf Svstnr a b c = whole SaveStatus (one Zero) (noRamTo c)
-workOf Setst a b c = whole (SetStatus (statusBitsAt c)) (one Zero) ToY
-workOf Rstst a b c = whole (ResetStatus (statusBitsAt c)) (one Zero) ToY
-workOf Test a b c = idle TestStatus (Instruction (c / 2))
-workOf Noop a b c = idle NoOperation Pins
+workOf = workBy asPrinted
 
 -- the plan of a named instruction: A is n where there is one, and C the register where there is one. Fields count modulo their range,
 -- in which every instruction of the list has them

@@ -1,5 +1,5 @@
 -- What is read off a plan: whether the instruction has an I operand (document 01, the machine and one cycle) and, for the laws that hold
--- plans to the list, whether it writes RAM, is a bit operation, and prioritizes ACC under ACC.
+-- plans to the list, whether it writes RAM, is a bit operation, prioritizes ACC under ACC, and has RAM, ACC or D where it goes back.
 use mathlib.Core.Bool.{Bool, true, false}
 use Rattle.choice.specs.Pick.{pick}
 use Rattle.plan.specs.declared.Source.{Source}
@@ -81,3 +81,13 @@ isAcc LatchSignExtended = false
 -- ACC is a prioritize's source and its mask at once
 abbrev pub accUnderAcc : Work → Bool
 accUnderAcc w = pick (isPrioritize (w .task)) (pick (isAcc (w .operands .first)) (isAcc (w .operands .mask)) false) false
+
+-- the sources that a merge's R and a bit operation's source are taken from
+abbrev pub isRamAccOrLatch : Source → Bool
+isRamAccOrLatch Zero = false
+isRamAccOrLatch Ram = true
+isRamAccOrLatch Acc = true
+isRamAccOrLatch Latch = true
+isRamAccOrLatch Immediate = false
+isRamAccOrLatch LatchZeroExtended = false
+isRamAccOrLatch LatchSignExtended = false

@@ -12,7 +12,7 @@ mod tables; // tables.rt: what single fields stand for
 
 ghost use mathlib.Core.Path.{_≡_};
 ghost use Prim.Native.Nat.{_<_};
-ghost use Rattle.plan.specs.Tables.{twoOperandAt, oneOperandAt, shiftAt, sourceAt, pairR, pairS, ramPairR, ramPairS, rotateU, rotateR, rotateMask, back};
+ghost use Rattle.plan.specs.Tables.{at, twoOperands, oneOperands, shifts, sources, pairR, pairS, ramPairR, ramPairS, rotateU, rotateR, rotateMask, back};
 ghost use Rattle.plan.specs.Plans.{one as specs·one, two as specs·two, masked as specs·masked, three as specs·three, atWidth, whole as specs·whole, idle as specs·idle, bitWork, workOf, planOf};
 ghost use Rattle.plan.specs.Reading.{isImmediate, namesI};
 
@@ -161,7 +161,7 @@ fn check_step(task: Task) -> Work
 // A merge goes where its R is.
 fn merge(b: u8) -> Work
     requires { ⌜ b < 16 ⌝ }
-    ensures { λ r. ⌜ r ≡ atWidth Task.Merge (specs·three (rotateU b) (rotateR b) (rotateMask b)) (back (rotateR b)) ⌝ }
+    ensures { λ r. ⌜ r ≡ atWidth Task.Merge (specs·three (at rotateU b) (at rotateR b) (at rotateMask b)) (back (at rotateR b)) ⌝ }
 {
     let operands = rotate_operands(b);
     let r = operands.second;
@@ -183,7 +183,7 @@ fn idle(task: Task, chooser: Chooser) -> Work
 
 fn two_operand(b: u8, operands: Operands, destination: Destination) -> Work
     requires { ⌜ b < 16 ⌝ }
-    ensures { λ r. ⌜ r ≡ atWidth (Task.TwoOperand (twoOperandAt b)) operands destination ⌝ }
+    ensures { λ r. ⌜ r ≡ atWidth (Task.TwoOperand (at twoOperands b)) operands destination ⌝ }
 {
     at_width(
         Task::TwoOperand(tables::two_operand_kind(b)),
@@ -194,7 +194,7 @@ fn two_operand(b: u8, operands: Operands, destination: Destination) -> Work
 
 fn one_operand(a: u8, b: u8, destination: Destination) -> Work
     requires { ⌜ (a < 16) × (b < 16) ⌝ }
-    ensures { λ r. ⌜ r ≡ atWidth (Task.OneOperand (oneOperandAt a)) (specs·one (sourceAt b)) destination ⌝ }
+    ensures { λ r. ⌜ r ≡ atWidth (Task.OneOperand (at oneOperands a)) (specs·one (at sources b)) destination ⌝ }
 {
     at_width(
         Task::OneOperand(tables::one_operand_kind(a)),
@@ -205,7 +205,7 @@ fn one_operand(a: u8, b: u8, destination: Destination) -> Work
 
 fn shift(b: u8, source: Source, destination: Destination) -> Work
     requires { ⌜ b < 16 ⌝ }
-    ensures { λ r. ⌜ r ≡ atWidth (Task.Shift (shiftAt b)) (specs·one source) destination ⌝ }
+    ensures { λ r. ⌜ r ≡ atWidth (Task.Shift (at shifts b)) (specs·one source) destination ⌝ }
 {
     at_width(Task::Shift(tables::shift_kind(b)), one(source), destination)
 }
@@ -218,21 +218,21 @@ fn bit(kind: BitKind, source: Source) -> Work
 
 fn pair(a: u8) -> Operands
     requires { ⌜ a < 16 ⌝ }
-    ensures { λ r. ⌜ r ≡ specs·two (pairR a) (pairS a) ⌝ }
+    ensures { λ r. ⌜ r ≡ specs·two (at pairR a) (at pairS a) ⌝ }
 {
     two(tables::pair_r(a), tables::pair_s(a))
 }
 
 fn ram_pair(a: u8) -> Operands
     requires { ⌜ a < 16 ⌝ }
-    ensures { λ r. ⌜ r ≡ specs·two (ramPairR a) (ramPairS a) ⌝ }
+    ensures { λ r. ⌜ r ≡ specs·two (at ramPairR a) (at ramPairS a) ⌝ }
 {
     two(tables::ram_pair_r(a), tables::ram_pair_s(a))
 }
 
 fn rotate_operands(b: u8) -> Operands
     requires { ⌜ b < 16 ⌝ }
-    ensures { λ r. ⌜ r ≡ specs·three (rotateU b) (rotateR b) (rotateMask b) ⌝ }
+    ensures { λ r. ⌜ r ≡ specs·three (at rotateU b) (at rotateR b) (at rotateMask b) ⌝ }
 {
     three(
         tables::rotate_u(b),

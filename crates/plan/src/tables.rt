@@ -11,12 +11,12 @@ ghost use mathlib.Core.Path.{_≡_};
 ghost use lib.Dec.{eqb};
 ghost use Rattle.choice.specs.Along.{Along};
 ghost use Rattle.plan.specs.Numbers.{sameTwoOperandKind, sameOneOperandKind, sameBitKind, sameShiftKind, sameSource, sameDestination};
-ghost use Rattle.plan.specs.Tables.{twoOperandAt, oneOperandAt, shiftAt, bor2At, bor1At, bonrAt, statusBitsAt, ramPairR, ramPairS, pairR, pairS, sourceAt, prt1Source, maskAt, rotateU, rotateR, rotateMask, shiftSource, bonrSource, rotnrSource, ramPairTo, rotr1To, sorTo, prt1To, prt2To, noRamTo, back, bitTo, rotnrTo};
+ghost use Rattle.plan.specs.Tables.{at, twoOperands, oneOperands, shifts, bor2Bits, bor1Bits, bonrBits, statusBits, ramPairR, ramPairS, pairR, pairS, sources, prt1Source, maskSource, rotateU, rotateR, rotateMask, shiftSource, bonrSource, rotnrSource, ramPairTo, rotr1To, sorTo, prt1To, prt2To, noRamTo, back, bitTo, rotnrTo};
 
 // Operations 0 to 5.
 fn sum_kind(b: u8) -> TwoOperandKind
     requires { ⌜ b < 6 ⌝ }
-    ensures { λ r. ⌜ Along sameTwoOperandKind 16 twoOperandAt b r ⌝ }
+    ensures { λ r. ⌜ Along sameTwoOperandKind 16 (at twoOperands) b r ⌝ }
 {
     match b {
         0 => TwoOperandKind::SMinusR,
@@ -31,7 +31,7 @@ fn sum_kind(b: u8) -> TwoOperandKind
 // Operations 6 to 11.
 fn logic_kind(b: u8) -> TwoOperandKind
     requires { ⌜ 6 ≤ b ⌝ }
-    ensures { λ r. ⌜ Along sameTwoOperandKind 16 twoOperandAt b r ⌝ }
+    ensures { λ r. ⌜ Along sameTwoOperandKind 16 (at twoOperands) b r ⌝ }
 {
     match b {
         6 => TwoOperandKind::And,
@@ -45,14 +45,14 @@ fn logic_kind(b: u8) -> TwoOperandKind
 
 // Field B of TOR1, TOR2 and TONR.
 pub(crate) fn two_operand_kind(b: u8) -> TwoOperandKind
-    ensures { λ r. ⌜ Along sameTwoOperandKind 16 twoOperandAt b r ⌝ }
+    ensures { λ r. ⌜ Along sameTwoOperandKind 16 (at twoOperands) b r ⌝ }
 {
     if b < 6 { sum_kind(b) } else { logic_kind(b) }
 }
 
 // Field A of SOR and SONR.
 pub(crate) fn one_operand_kind(a: u8) -> OneOperandKind
-    ensures { λ r. ⌜ Along sameOneOperandKind 16 oneOperandAt a r ⌝ }
+    ensures { λ r. ⌜ Along sameOneOperandKind 16 (at oneOperands) a r ⌝ }
 {
     match a {
         13 => OneOperandKind::Complement,
@@ -65,7 +65,7 @@ pub(crate) fn one_operand_kind(a: u8) -> OneOperandKind
 // The shifts up.
 fn shift_up_kind(b: u8) -> ShiftKind
     requires { ⌜ b < 4 ⌝ }
-    ensures { λ r. ⌜ Along sameShiftKind 16 shiftAt b r ⌝ }
+    ensures { λ r. ⌜ Along sameShiftKind 16 (at shifts) b r ⌝ }
 {
     match b {
         1 => ShiftKind::UpWithOne,
@@ -77,7 +77,7 @@ fn shift_up_kind(b: u8) -> ShiftKind
 // The shifts down.
 fn shift_down_kind(b: u8) -> ShiftKind
     requires { ⌜ 4 ≤ b ⌝ }
-    ensures { λ r. ⌜ Along sameShiftKind 16 shiftAt b r ⌝ }
+    ensures { λ r. ⌜ Along sameShiftKind 16 (at shifts) b r ⌝ }
 {
     match b {
         4 => ShiftKind::DownWithZero,
@@ -91,7 +91,7 @@ fn shift_down_kind(b: u8) -> ShiftKind
 
 // Field B of SHFTR and SHFTNR.
 pub(crate) fn shift_kind(b: u8) -> ShiftKind
-    ensures { λ r. ⌜ Along sameShiftKind 16 shiftAt b r ⌝ }
+    ensures { λ r. ⌜ Along sameShiftKind 16 (at shifts) b r ⌝ }
 {
     if b < 4 {
         shift_up_kind(b)
@@ -102,7 +102,7 @@ pub(crate) fn shift_kind(b: u8) -> ShiftKind
 
 // Field B of BOR2.
 pub(crate) fn bor2_kind(b: u8) -> BitKind
-    ensures { λ r. ⌜ Along sameBitKind 16 bor2At b r ⌝ }
+    ensures { λ r. ⌜ Along sameBitKind 16 (at bor2Bits) b r ⌝ }
 {
     match b {
         13 => BitKind::LoadBitComplement,
@@ -114,7 +114,7 @@ pub(crate) fn bor2_kind(b: u8) -> BitKind
 
 // Field B of BOR1.
 pub(crate) fn bor1_kind(b: u8) -> BitKind
-    ensures { λ r. ⌜ Along sameBitKind 16 bor1At b r ⌝ }
+    ensures { λ r. ⌜ Along sameBitKind 16 (at bor1Bits) b r ⌝ }
 {
     match b {
         14 => BitKind::ResetBit,
@@ -126,7 +126,7 @@ pub(crate) fn bor1_kind(b: u8) -> BitKind
 // Field C of BONR on ACC.
 fn acc_bit_kind(c: u8) -> BitKind
     requires { ⌜ c < 16 ⌝ }
-    ensures { λ r. ⌜ Along sameBitKind 32 bonrAt c r ⌝ }
+    ensures { λ r. ⌜ Along sameBitKind 32 (at bonrBits) c r ⌝ }
 {
     match c {
         1 => BitKind::ResetBit,
@@ -142,7 +142,7 @@ fn acc_bit_kind(c: u8) -> BitKind
 // Field C of BONR on D.
 fn latch_bit_kind(c: u8) -> BitKind
     requires { ⌜ 16 ≤ c ⌝ }
-    ensures { λ r. ⌜ Along sameBitKind 32 bonrAt c r ⌝ }
+    ensures { λ r. ⌜ Along sameBitKind 32 (at bonrBits) c r ⌝ }
 {
     match c {
         17 => BitKind::ResetBit,
@@ -157,7 +157,7 @@ fn latch_bit_kind(c: u8) -> BitKind
 
 // Field C of BONR.
 pub(crate) fn bonr_kind(c: u8) -> BitKind
-    ensures { λ r. ⌜ Along sameBitKind 32 bonrAt c r ⌝ }
+    ensures { λ r. ⌜ Along sameBitKind 32 (at bonrBits) c r ⌝ }
 {
     if c < 16 {
         acc_bit_kind(c)
@@ -168,7 +168,7 @@ pub(crate) fn bonr_kind(c: u8) -> BitKind
 
 // Field C of SETST and RSTST: the status bits.
 pub(crate) fn status_bits(c: u8) -> u8
-    ensures { λ r. ⌜ Along eqb 32 statusBitsAt c r ⌝ }
+    ensures { λ r. ⌜ Along eqb 32 (at statusBits) c r ⌝ }
 {
     match c {
         3 => 0x0F,
@@ -182,7 +182,7 @@ pub(crate) fn status_bits(c: u8) -> u8
 
 // Field A of TOR1: R.
 pub(crate) fn ram_pair_r(a: u8) -> Source
-    ensures { λ r. ⌜ Along sameSource 16 ramPairR a r ⌝ }
+    ensures { λ r. ⌜ Along sameSource 16 (at ramPairR) a r ⌝ }
 {
     match a {
         3 => Source::Latch,
@@ -194,7 +194,7 @@ pub(crate) fn ram_pair_r(a: u8) -> Source
 
 // Field A of TOR1: S.
 pub(crate) fn ram_pair_s(a: u8) -> Source
-    ensures { λ r. ⌜ Along sameSource 16 ramPairS a r ⌝ }
+    ensures { λ r. ⌜ Along sameSource 16 (at ramPairS) a r ⌝ }
 {
     match a {
         2 => Source::Immediate,
@@ -209,7 +209,7 @@ pub(crate) fn ram_pair_s(a: u8) -> Source
 
 // Field A of TOR2 and TONR: R.
 pub(crate) fn pair_r(a: u8) -> Source
-    ensures { λ r. ⌜ Along sameSource 16 pairR a r ⌝ }
+    ensures { λ r. ⌜ Along sameSource 16 (at pairR) a r ⌝ }
 {
     match a {
         2 => Source::Acc,
@@ -219,7 +219,7 @@ pub(crate) fn pair_r(a: u8) -> Source
 
 // Field A of TOR2 and TONR: S.
 pub(crate) fn pair_s(a: u8) -> Source
-    ensures { λ r. ⌜ Along sameSource 16 pairS a r ⌝ }
+    ensures { λ r. ⌜ Along sameSource 16 (at pairS) a r ⌝ }
 {
     match a {
         1 => Source::Acc,
@@ -230,7 +230,7 @@ pub(crate) fn pair_s(a: u8) -> Source
 // Field B up to 5 as a source.
 fn low_source(b: u8) -> Source
     requires { ⌜ b < 6 ⌝ }
-    ensures { λ r. ⌜ Along sameSource 16 sourceAt b r ⌝ }
+    ensures { λ r. ⌜ Along sameSource 16 (at sources) b r ⌝ }
 {
     match b {
         0 => Source::Ram,
@@ -243,7 +243,7 @@ fn low_source(b: u8) -> Source
 // Field B from 6 on as a source.
 fn high_source(b: u8) -> Source
     requires { ⌜ 6 ≤ b ⌝ }
-    ensures { λ r. ⌜ Along sameSource 16 sourceAt b r ⌝ }
+    ensures { λ r. ⌜ Along sameSource 16 (at sources) b r ⌝ }
 {
     match b {
         6 => Source::Latch,
@@ -257,14 +257,14 @@ fn high_source(b: u8) -> Source
 
 // Field B of SOR, SONR, PRT3 and PRTNR: the source.
 pub(crate) fn source_at(b: u8) -> Source
-    ensures { λ r. ⌜ Along sameSource 16 sourceAt b r ⌝ }
+    ensures { λ r. ⌜ Along sameSource 16 (at sources) b r ⌝ }
 {
     if b < 6 { low_source(b) } else { high_source(b) }
 }
 
 // Field B of PRT1: the source.
 pub(crate) fn prt1_source(b: u8) -> Source
-    ensures { λ r. ⌜ Along sameSource 16 prt1Source b r ⌝ }
+    ensures { λ r. ⌜ Along sameSource 16 (at prt1Source) b r ⌝ }
 {
     match b {
         7 => Source::Acc,
@@ -274,7 +274,7 @@ pub(crate) fn prt1_source(b: u8) -> Source
 
 // Field A of PRT2, PRT3 and PRTNR: the mask.
 pub(crate) fn mask_source(a: u8) -> Source
-    ensures { λ r. ⌜ Along sameSource 16 maskAt a r ⌝ }
+    ensures { λ r. ⌜ Along sameSource 16 (at maskSource) a r ⌝ }
 {
     match a {
         8 => Source::Acc,
@@ -285,7 +285,7 @@ pub(crate) fn mask_source(a: u8) -> Source
 
 // Field B of ROTR2, ROTC and ROTM: U.
 pub(crate) fn rotate_u(b: u8) -> Source
-    ensures { λ r. ⌜ Along sameSource 16 rotateU b r ⌝ }
+    ensures { λ r. ⌜ Along sameSource 16 (at rotateU) b r ⌝ }
 {
     match b {
         0 => Source::Acc,
@@ -298,7 +298,7 @@ pub(crate) fn rotate_u(b: u8) -> Source
 
 // Field B of ROTC and ROTM: R.
 pub(crate) fn rotate_r(b: u8) -> Source
-    ensures { λ r. ⌜ Along sameSource 16 rotateR b r ⌝ }
+    ensures { λ r. ⌜ Along sameSource 16 (at rotateR) b r ⌝ }
 {
     match b {
         3..=4 => Source::Ram,
@@ -310,7 +310,7 @@ pub(crate) fn rotate_r(b: u8) -> Source
 
 // Field B of ROTC and ROTM: the mask.
 pub(crate) fn rotate_mask(b: u8) -> Source
-    ensures { λ r. ⌜ Along sameSource 16 rotateMask b r ⌝ }
+    ensures { λ r. ⌜ Along sameSource 16 (at rotateMask) b r ⌝ }
 {
     match b {
         4 => Source::Acc,
@@ -322,7 +322,7 @@ pub(crate) fn rotate_mask(b: u8) -> Source
 
 // Field A of SHFTR and SHFTNR: the source, which at 6 is the family's own.
 pub(crate) fn shift_source(own: Source, a: u8) -> Source
-    ensures { λ r. ⌜ r ≡ shiftSource own a ⌝ }
+    ensures { λ r. ⌜ r ≡ at (shiftSource own) a ⌝ }
 {
     if a == 6 { own } else { Source::Latch }
 }
@@ -359,7 +359,7 @@ pub(crate) fn bit_to(kind: BitKind, source: Source) -> Destination
 
 // Field C of BONR: the source.
 pub(crate) fn bonr_source(c: u8) -> Source
-    ensures { λ r. ⌜ Along sameSource 32 bonrSource c r ⌝ }
+    ensures { λ r. ⌜ Along sameSource 32 (at bonrSource) c r ⌝ }
 {
     match c {
         0..=2 => Source::Acc,
@@ -370,7 +370,7 @@ pub(crate) fn bonr_source(c: u8) -> Source
 
 // Field C of ROTNR: the source.
 pub(crate) fn rotnr_source(c: u8) -> Source
-    ensures { λ r. ⌜ Along sameSource 32 rotnrSource c r ⌝ }
+    ensures { λ r. ⌜ Along sameSource 32 (at rotnrSource) c r ⌝ }
 {
     match c {
         24..=25 => Source::Latch,
@@ -380,7 +380,7 @@ pub(crate) fn rotnr_source(c: u8) -> Source
 
 // Field A of TOR1: the destination.
 pub(crate) fn ram_pair_to(a: u8) -> Destination
-    ensures { λ r. ⌜ Along sameDestination 16 ramPairTo a r ⌝ }
+    ensures { λ r. ⌜ Along sameDestination 16 (at ramPairTo) a r ⌝ }
 {
     match a {
         8 => Destination::ToY,
@@ -393,7 +393,7 @@ pub(crate) fn ram_pair_to(a: u8) -> Destination
 
 // Field B of ROTR1: the destination.
 pub(crate) fn rotr1_to(b: u8) -> Destination
-    ensures { λ r. ⌜ Along sameDestination 16 rotr1To b r ⌝ }
+    ensures { λ r. ⌜ Along sameDestination 16 (at rotr1To) b r ⌝ }
 {
     match b {
         14 => Destination::ToY,
@@ -404,7 +404,7 @@ pub(crate) fn rotr1_to(b: u8) -> Destination
 
 // Field B of SOR: the destination.
 pub(crate) fn sor_to(b: u8) -> Destination
-    ensures { λ r. ⌜ Along sameDestination 16 sorTo b r ⌝ }
+    ensures { λ r. ⌜ Along sameDestination 16 (at sorTo) b r ⌝ }
 {
     match b {
         0 => Destination::ToAcc,
@@ -416,7 +416,7 @@ pub(crate) fn sor_to(b: u8) -> Destination
 
 // Field A of PRT1: the destination.
 pub(crate) fn prt1_to(a: u8) -> Destination
-    ensures { λ r. ⌜ Along sameDestination 16 prt1To a r ⌝ }
+    ensures { λ r. ⌜ Along sameDestination 16 (at prt1To) a r ⌝ }
 {
     match a {
         10 => Destination::ToY,
@@ -427,7 +427,7 @@ pub(crate) fn prt1_to(a: u8) -> Destination
 
 // Field B of PRT2: the destination.
 pub(crate) fn prt2_to(b: u8) -> Destination
-    ensures { λ r. ⌜ Along sameDestination 16 prt2To b r ⌝ }
+    ensures { λ r. ⌜ Along sameDestination 16 (at prt2To) b r ⌝ }
 {
     match b {
         2 => Destination::ToY,
@@ -437,7 +437,7 @@ pub(crate) fn prt2_to(b: u8) -> Destination
 
 // Field C of SONR, TONR, SHFTNR, PRTNR and SVSTNR: the destination.
 pub(crate) fn no_ram_to(c: u8) -> Destination
-    ensures { λ r. ⌜ Along sameDestination 32 noRamTo c r ⌝ }
+    ensures { λ r. ⌜ Along sameDestination 32 (at noRamTo) c r ⌝ }
 {
     match c {
         1 => Destination::ToAcc,
@@ -449,7 +449,7 @@ pub(crate) fn no_ram_to(c: u8) -> Destination
 
 // Field C of ROTNR: the destination.
 pub(crate) fn rotnr_to(c: u8) -> Destination
-    ensures { λ r. ⌜ Along sameDestination 32 rotnrTo c r ⌝ }
+    ensures { λ r. ⌜ Along sameDestination 32 (at rotnrTo) c r ⌝ }
 {
     match c {
         25 => Destination::ToAcc,

@@ -1,5 +1,5 @@
 -- `plan::one_operand` meets its contract: the fields' tables are told value by value.
-use Rattle.plan.specs.Tables.{oneOperandAt, sourceAt}
+use Rattle.plan.specs.Tables.{at, oneOperands, sources}
 use Rattle.plan.proofs.Told.{told-one-operand, told-source}
 use borrow.Author.Needs.{needs}
 use Rattle.plan.proofs.one_operand.Statement.{statement}
@@ -18,7 +18,7 @@ at-width-requires : tie.Need-at-width-requires
 at-width-requires c κs = search needs
 
 returns : tie.Need-returns
-returns c = rw (c .at-width .ensures, c .before .one .ensures, told-source 16 sourceAt (c .before .before .before .before .args .b) (c .before .before .source-at .result) (c .before .before .source-at .ensures) (c .before .before .before .before .pre .1), told-one-operand 16 oneOperandAt (c .before .before .before .before .args .a) (c .before .before .before .one-operand-kind .result) (c .before .before .before .one-operand-kind .ensures) (c .before .before .before .before .pre .0))
+returns c = rw (c .at-width .ensures, c .before .one .ensures, told-source 16 (at sources) (c .before .before .before .before .args .b) (c .before .before .source-at .result) (c .before .before .source-at .ensures) (c .before .before .before .before .pre .1), told-one-operand 16 (at oneOperands) (c .before .before .before .before .args .a) (c .before .before .before .one-operand-kind .result) (c .before .before .before .one-operand-kind .ensures) (c .before .before .before .before .pre .0))
 
 pub one-operand-spec : {M : Type 1} → statement M
 one-operand-spec =

@@ -1,6 +1,6 @@
 -- `plan::work_of` meets its contract: in each arm the family is the arm's, and the tables are told value by value.
 use Rattle.plan.specs.Plans.{workOf}
-use Rattle.plan.specs.Tables.{bonrAt, bonrSource, bor1At, bor2At, maskAt, noRamTo, prt1Source, prt1To, prt2To, ramPairTo, rotateU, rotnrSource, rotnrTo, rotr1To, sorTo, sourceAt, statusBitsAt}
+use Rattle.plan.specs.Tables.{at, bonrBits, bonrSource, bor1Bits, bor2Bits, maskSource, noRamTo, prt1Source, prt1To, prt2To, ramPairTo, rotateU, rotnrSource, rotnrTo, rotr1To, sorTo, sources, statusBits}
 use Rattle.choice.proofs.Decisions.{along}
 use Rattle.plan.proofs.Told.{told-bit, told-destination, told-source}
 use borrow.Author.Needs.{needs}
@@ -264,15 +264,15 @@ idle-requires-2 c κs = search needs
 
 returns : tie.Need-returns
 unfolding workOf
-returns c = rw (c .before .before .before .enum-told .given .1, c .two-operand .ensures, told-destination 16 ramPairTo (c .before .before .before .before .before .args .a) (c .before .ram-pair-to .result) (c .before .ram-pair-to .ensures) (c .before .before .before .before .before .pre .0), c .before .before .ram-pair .ensures)
+returns c = rw (c .before .before .before .enum-told .given .1, c .two-operand .ensures, told-destination 16 (at ramPairTo) (c .before .before .before .before .before .args .a) (c .before .ram-pair-to .result) (c .before .ram-pair-to .ensures) (c .before .before .before .before .before .pre .0), c .before .before .ram-pair .ensures)
 
 returns-2 : tie.Need-returns-2
 unfolding workOf
-returns-2 c = rw (c .before .before .enum-told2 .given .1, c .rotate .ensures, told-destination 16 rotr1To (c .before .before .before .before .args .b) (c .before .rotr1-to .result) (c .before .rotr1-to .ensures) (c .before .before .before .before .pre .1))
+returns-2 c = rw (c .before .before .enum-told2 .given .1, c .rotate .ensures, told-destination 16 (at rotr1To) (c .before .before .before .before .args .b) (c .before .rotr1-to .result) (c .before .rotr1-to .ensures) (c .before .before .before .before .pre .1))
 
 returns-3 : tie.Need-returns-3
 unfolding workOf
-returns-3 c = rw (c .before .before .enum-told3 .given .1, c .rotate2 .ensures, told-source 16 rotateU (c .before .before .before .before .args .b) (c .before .rotate-u .result) (c .before .rotate-u .ensures) (c .before .before .before .before .pre .1))
+returns-3 c = rw (c .before .before .enum-told3 .given .1, c .rotate2 .ensures, told-source 16 (at rotateU) (c .before .before .before .before .args .b) (c .before .rotate-u .result) (c .before .rotate-u .ensures) (c .before .before .before .before .pre .1))
 
 returns-4 : tie.Need-returns-4
 unfolding workOf
@@ -284,11 +284,11 @@ returns-5 c = rw (c .before .enum-told5 .given .1, c .merge .ensures)
 
 returns-6 : tie.Need-returns-6
 unfolding workOf
-returns-6 c = rw (c .before .before .enum-told6 .given .1, c .one-operand .ensures, told-destination 16 sorTo (c .before .before .before .before .args .b) (c .before .sor-to .result) (c .before .sor-to .ensures) (c .before .before .before .before .pre .1))
+returns-6 c = rw (c .before .before .enum-told6 .given .1, c .one-operand .ensures, told-destination 16 (at sorTo) (c .before .before .before .before .args .b) (c .before .sor-to .result) (c .before .sor-to .ensures) (c .before .before .before .before .pre .1))
 
 returns-7 : tie.Need-returns-7
 unfolding workOf
-returns-7 c = rw (c .before .before .enum-told7 .given .1, c .bit .ensures, told-bit 16 bor2At (c .before .before .before .before .args .b) (c .before .bor2-kind .result) (c .before .bor2-kind .ensures) (c .before .before .before .before .pre .1))
+returns-7 c = rw (c .before .before .enum-told7 .given .1, c .bit .ensures, told-bit 16 (at bor2Bits) (c .before .before .before .before .args .b) (c .before .bor2-kind .result) (c .before .bor2-kind .ensures) (c .before .before .before .before .pre .1))
 
 returns-8 : tie.Need-returns-8
 unfolding workOf
@@ -308,15 +308,15 @@ returns-11 c = rw (c .before .enum-told11 .given .1, c .check-step2 .ensures)
 
 returns-12 : tie.Need-returns-12
 unfolding workOf
-returns-12 c = rw (c .before .before .before .enum-told12 .given .1, c .prioritize .ensures, told-destination 16 prt1To (c .before .before .before .before .before .args .a) (c .before .prt1-to .result) (c .before .prt1-to .ensures) (c .before .before .before .before .before .pre .0), told-source 16 prt1Source (c .before .before .before .before .before .args .b) (c .before .before .prt1-source .result) (c .before .before .prt1-source .ensures) (c .before .before .before .before .before .pre .1))
+returns-12 c = rw (c .before .before .before .enum-told12 .given .1, c .prioritize .ensures, told-destination 16 (at prt1To) (c .before .before .before .before .before .args .a) (c .before .prt1-to .result) (c .before .prt1-to .ensures) (c .before .before .before .before .before .pre .0), told-source 16 (at prt1Source) (c .before .before .before .before .before .args .b) (c .before .before .prt1-source .result) (c .before .before .prt1-source .ensures) (c .before .before .before .before .before .pre .1))
 
 returns-13 : tie.Need-returns-13
 unfolding workOf
-returns-13 c = rw (c .before .before .before .enum-told13 .given .1, c .prioritize2 .ensures, told-destination 16 prt2To (c .before .before .before .before .before .args .b) (c .before .prt2-to .result) (c .before .prt2-to .ensures) (c .before .before .before .before .before .pre .1), told-source 16 maskAt (c .before .before .before .before .before .args .a) (c .before .before .mask-source .result) (c .before .before .mask-source .ensures) (c .before .before .before .before .before .pre .0))
+returns-13 c = rw (c .before .before .before .enum-told13 .given .1, c .prioritize2 .ensures, told-destination 16 (at prt2To) (c .before .before .before .before .before .args .b) (c .before .prt2-to .result) (c .before .prt2-to .ensures) (c .before .before .before .before .before .pre .1), told-source 16 (at maskSource) (c .before .before .before .before .before .args .a) (c .before .before .mask-source .result) (c .before .before .mask-source .ensures) (c .before .before .before .before .before .pre .0))
 
 returns-14 : tie.Need-returns-14
 unfolding workOf
-returns-14 c = rw (c .before .before .before .enum-told14 .given .1, c .prioritize3 .ensures, told-source 16 maskAt (c .before .before .before .before .before .args .a) (c .before .mask-source2 .result) (c .before .mask-source2 .ensures) (c .before .before .before .before .before .pre .0), told-source 16 sourceAt (c .before .before .before .before .before .args .b) (c .before .before .source-at .result) (c .before .before .source-at .ensures) (c .before .before .before .before .before .pre .1))
+returns-14 c = rw (c .before .before .before .enum-told14 .given .1, c .prioritize3 .ensures, told-source 16 (at maskSource) (c .before .before .before .before .before .args .a) (c .before .mask-source2 .result) (c .before .mask-source2 .ensures) (c .before .before .before .before .before .pre .0), told-source 16 (at sources) (c .before .before .before .before .before .args .b) (c .before .before .source-at .result) (c .before .before .source-at .ensures) (c .before .before .before .before .before .pre .1))
 
 returns-15 : tie.Need-returns-15
 unfolding workOf
@@ -324,43 +324,43 @@ returns-15 c = rw (c .before .enum-told15 .given .1, c .status-work .ensures)
 
 returns-16 : tie.Need-returns-16
 unfolding workOf
-returns-16 c = rw (c .before .before .enum-told16 .given .1, c .one-operand2 .ensures, told-destination 32 noRamTo (c .before .before .before .before .args .c) (c .before .no-ram-to .result) (c .before .no-ram-to .ensures) (c .before .before .before .before .pre .2))
+returns-16 c = rw (c .before .before .enum-told16 .given .1, c .one-operand2 .ensures, told-destination 32 (at noRamTo) (c .before .before .before .before .args .c) (c .before .no-ram-to .result) (c .before .no-ram-to .ensures) (c .before .before .before .before .pre .2))
 
 returns-17 : tie.Need-returns-17
 unfolding workOf
-returns-17 c = rw (c .before .before .before .enum-told17 .given .1, c .two-operand3 .ensures, told-destination 32 noRamTo (c .before .before .before .before .before .args .c) (c .before .no-ram-to2 .result) (c .before .no-ram-to2 .ensures) (c .before .before .before .before .before .pre .2), c .before .before .pair2 .ensures)
+returns-17 c = rw (c .before .before .before .enum-told17 .given .1, c .two-operand3 .ensures, told-destination 32 (at noRamTo) (c .before .before .before .before .before .args .c) (c .before .no-ram-to2 .result) (c .before .no-ram-to2 .ensures) (c .before .before .before .before .before .pre .2), c .before .before .pair2 .ensures)
 
 returns-18 : tie.Need-returns-18
 unfolding workOf
-returns-18 c = rw (c .before .before .before .enum-told18 .given .1, c .shift2 .ensures, told-destination 32 noRamTo (c .before .before .before .before .before .args .c) (c .before .no-ram-to3 .result) (c .before .no-ram-to3 .ensures) (c .before .before .before .before .before .pre .2), c .before .before .shift-source2 .ensures)
+returns-18 c = rw (c .before .before .before .enum-told18 .given .1, c .shift2 .ensures, told-destination 32 (at noRamTo) (c .before .before .before .before .before .args .c) (c .before .no-ram-to3 .result) (c .before .no-ram-to3 .ensures) (c .before .before .before .before .before .pre .2), c .before .before .shift-source2 .ensures)
 
 returns-19 : tie.Need-returns-19
 unfolding workOf
-returns-19 c = rw (c .before .before .enum-told19 .given .1, c .bit2 .ensures, told-bit 16 bor1At (c .before .before .before .before .args .b) (c .before .bor1-kind .result) (c .before .bor1-kind .ensures) (c .before .before .before .before .pre .1))
+returns-19 c = rw (c .before .before .enum-told19 .given .1, c .bit2 .ensures, told-bit 16 (at bor1Bits) (c .before .before .before .before .args .b) (c .before .bor1-kind .result) (c .before .bor1-kind .ensures) (c .before .before .before .before .pre .1))
 
 returns-20 : tie.Need-returns-20
 unfolding workOf
-returns-20 c = rw (c .before .before .before .enum-told20 .given .1, c .bit3 .ensures, told-source 32 bonrSource (c .before .before .before .before .before .args .c) (c .before .bonr-source .result) (c .before .bonr-source .ensures) (c .before .before .before .before .before .pre .2), told-bit 32 bonrAt (c .before .before .before .before .before .args .c) (c .before .before .bonr-kind .result) (c .before .before .bonr-kind .ensures) (c .before .before .before .before .before .pre .2))
+returns-20 c = rw (c .before .before .before .enum-told20 .given .1, c .bit3 .ensures, told-source 32 (at bonrSource) (c .before .before .before .before .before .args .c) (c .before .bonr-source .result) (c .before .bonr-source .ensures) (c .before .before .before .before .before .pre .2), told-bit 32 (at bonrBits) (c .before .before .before .before .before .args .c) (c .before .before .bonr-kind .result) (c .before .before .bonr-kind .ensures) (c .before .before .before .before .before .pre .2))
 
 returns-21 : tie.Need-returns-21
 unfolding workOf
-returns-21 c = rw (c .before .before .before .enum-told21 .given .1, c .rotate3 .ensures, told-destination 32 rotnrTo (c .before .before .before .before .before .args .c) (c .before .rotnr-to .result) (c .before .rotnr-to .ensures) (c .before .before .before .before .before .pre .2), told-source 32 rotnrSource (c .before .before .before .before .before .args .c) (c .before .before .rotnr-source .result) (c .before .before .rotnr-source .ensures) (c .before .before .before .before .before .pre .2))
+returns-21 c = rw (c .before .before .before .enum-told21 .given .1, c .rotate3 .ensures, told-destination 32 (at rotnrTo) (c .before .before .before .before .before .args .c) (c .before .rotnr-to .result) (c .before .rotnr-to .ensures) (c .before .before .before .before .before .pre .2), told-source 32 (at rotnrSource) (c .before .before .before .before .before .args .c) (c .before .before .rotnr-source .result) (c .before .before .rotnr-source .ensures) (c .before .before .before .before .before .pre .2))
 
 returns-22 : tie.Need-returns-22
 unfolding workOf
-returns-22 c = rw (c .before .before .before .before .enum-told22 .given .1, c .prioritize4 .ensures, told-destination 32 noRamTo (c .before .before .before .before .before .before .args .c) (c .before .no-ram-to4 .result) (c .before .no-ram-to4 .ensures) (c .before .before .before .before .before .before .pre .2), told-source 16 maskAt (c .before .before .before .before .before .before .args .a) (c .before .before .mask-source3 .result) (c .before .before .mask-source3 .ensures) (c .before .before .before .before .before .before .pre .0), told-source 16 sourceAt (c .before .before .before .before .before .before .args .b) (c .before .before .before .source-at2 .result) (c .before .before .before .source-at2 .ensures) (c .before .before .before .before .before .before .pre .1))
+returns-22 c = rw (c .before .before .before .before .enum-told22 .given .1, c .prioritize4 .ensures, told-destination 32 (at noRamTo) (c .before .before .before .before .before .before .args .c) (c .before .no-ram-to4 .result) (c .before .no-ram-to4 .ensures) (c .before .before .before .before .before .before .pre .2), told-source 16 (at maskSource) (c .before .before .before .before .before .before .args .a) (c .before .before .mask-source3 .result) (c .before .before .mask-source3 .ensures) (c .before .before .before .before .before .before .pre .0), told-source 16 (at sources) (c .before .before .before .before .before .before .args .b) (c .before .before .before .source-at2 .result) (c .before .before .before .source-at2 .ensures) (c .before .before .before .before .before .before .pre .1))
 
 returns-23 : tie.Need-returns-23
 unfolding workOf
-returns-23 c = rw (c .before .before .enum-told23 .given .1, c .status-work2 .ensures, told-destination 32 noRamTo (c .before .before .before .before .args .c) (c .before .no-ram-to5 .result) (c .before .no-ram-to5 .ensures) (c .before .before .before .before .pre .2))
+returns-23 c = rw (c .before .before .enum-told23 .given .1, c .status-work2 .ensures, told-destination 32 (at noRamTo) (c .before .before .before .before .args .c) (c .before .no-ram-to5 .result) (c .before .no-ram-to5 .ensures) (c .before .before .before .before .pre .2))
 
 returns-24 : tie.Need-returns-24
 unfolding workOf
-returns-24 c = rw (c .before .before .enum-told24 .given .1, c .status-work3 .ensures, along 32 statusBitsAt (c .before .before .before .before .args .c) (c .before .status-bits .result) (c .before .status-bits .ensures) (c .before .before .before .before .pre .2))
+returns-24 c = rw (c .before .before .enum-told24 .given .1, c .status-work3 .ensures, along 32 (at statusBits) (c .before .before .before .before .args .c) (c .before .status-bits .result) (c .before .status-bits .ensures) (c .before .before .before .before .pre .2))
 
 returns-25 : tie.Need-returns-25
 unfolding workOf
-returns-25 c = rw (c .before .before .enum-told25 .given .1, c .status-work4 .ensures, along 32 statusBitsAt (c .before .before .before .before .args .c) (c .before .status-bits2 .result) (c .before .status-bits2 .ensures) (c .before .before .before .before .pre .2))
+returns-25 c = rw (c .before .before .enum-told25 .given .1, c .status-work4 .ensures, along 32 (at statusBits) (c .before .before .before .before .args .c) (c .before .status-bits2 .result) (c .before .status-bits2 .ensures) (c .before .before .before .before .pre .2))
 
 returns-26 : tie.Need-returns-26
 unfolding workOf
