@@ -1,5 +1,5 @@
--- Demand 3: two runs that differ only in upper bytes give the same reports, ending and counts, end with the same low bytes, and each
--- keeps the upper bytes that it started with.
+-- Demand 3, `byte-isolation`, at the end: whatever satisfies the statement of `run`, two runs that differ only in upper bytes give the same
+-- reports, ending and counts, end with the same low bytes, and each keeps the upper bytes that it started with. Before it `stricter-suffices`.
 use mathlib.Core.Path.{_≡_, refl, sym, ap, ap₂, _∙_, subst, subst₂, subst⁻¹}
 use mathlib.Core.Bool.{Bool, true, false}
 use mathlib.Core.List.{List, [], _∷_, _++_, map}
@@ -22,7 +22,7 @@ use Rattle.machine.specs.declared.Registers.{Registers}
 use Rattle.machine.specs.declared.Machine.{Machine}
 use Rattle.machine.specs.declared.Words.{Words}
 use Rattle.machine.specs.declared.Report.{Report}
-use Rattle.machine.specs.Judging.{Refuse, Wait, checksOf, acceptedAs, perform, judgementOf}
+use Rattle.machine.specs.Judging.{Refuse, Wait, checksOf, wordAbout, acceptedAs, perform, judgementOf}
 use Rattle.machine.specs.Settling.{latched}
 use Rattle.machine.specs.Cycles.{Turned, turnOf, cycleOf, completions}
 use Rattle.run.specs.declared.Ran.{Ran}
@@ -32,7 +32,7 @@ use Rattle.run.specs.Runs.{startChecks, startRefusal, runOf, Summary, placed, s
 use Rattle.run.proofs.Starting.{started, refused-whole}
 use Rattle.run.proofs.Courses.{steps-le, reports-length}
 use Rattle.run.proofs.Laws.{ending-one}
-use Rattle.demands.specs.Isolation.{SameLowBytes, UpperBytesKept, instructionWord, ByteMark, CyclesAlike, waitingBefore, Reached, Premises, StricterPremises, Isolated, IsolatedCalls}
+use Rattle.demands.specs.Isolation.{SameLowBytes, UpperBytesKept, ByteMark, CyclesAlike, waitingBefore, Reached, Premises, StricterPremises, Isolated}
 use Rattle.demands.proofs.Turns.{TurnsAlike, turns-alike, unchanged}
 
 kept-after : (a b c : Registers) → UpperBytesKept a b → UpperBytesKept b c → UpperBytesKept a c
@@ -73,19 +73,19 @@ record CoursesAlike (m n : Machine) (c d : Course) : Type 0 where
 closing-alike : (m n : Machine) (close : Tells Finish) → SameLowBytes (m .registers) (n .registers) → CoursesAlike m n (closing close) (closing close)
 closing-alike m n close s = record { reports = refl; close = refl; ends = s; first = unchanged (m .registers); second = unchanged (n .registers) }
 
-isolated-by : (m n : Machine) (c d : Course) → CoursesAlike m n c d → Isolated m n c d
-isolated-by m n c d a = record {
-  reports = words-told (c .steps) ∙ ap wordsIn (a .reports) ∙ sym (words-told (d .steps));
-  ending = ap₂ placed (a .close) number;
-  accepted = number;
-  completed = completions-told (c .steps) ∙ ap completionsIn (a .reports) ∙ sym (completions-told (d .steps));
-  ends = a .ends;
-  first = a .first;
-  second = a .second;
-}
-  where
-    number : length (c .steps) ≡ length (d .steps)
-    number = length-told (c .steps) ∙ ap length (a .reports) ∙ sym (length-told (d .steps))
+-- what is read off both is the same
+module _ (m n : Machine) (c d : Course) (a : CoursesAlike m n c d) where
+  same-length : length (c .steps) ≡ length (d .steps)
+  same-length = length-told (c .steps) ∙ ap length (a .reports) ∙ sym (length-told (d .steps))
+
+  same-reports : reportsOf (c .steps) ≡ reportsOf (d .steps)
+  same-reports = words-told (c .steps) ∙ ap wordsIn (a .reports) ∙ sym (words-told (d .steps))
+
+  same-completed : completedIn (c .steps) ≡ completedIn (d .steps)
+  same-completed = completions-told (c .steps) ∙ ap completionsIn (a .reports) ∙ sym (completions-told (d .steps))
+
+  same-ending : placed (c .close) (length (c .steps)) ≡ placed (d .close) (length (d .steps))
+  same-ending = ap₂ placed (a .close) same-length
 
 -- a cycle whose checks are clear is a step
 pub turn-steps : (m : Machine) (c : Words) (rest : Course) → refusal (checksOf (m .registers .waiting) c) ≡ 0
@@ -117,7 +117,7 @@ module _ (v w : List ℕ) where
   CyclesFrom m c i n budget = (k : ℕ) → k < n → k < budget → k ≤ length (c .steps) → CyclesAlike (waitingBefore m c k) (cycleAt v (i + k)) (cycleAt w (i + k))
 
   abbrev MarksFrom : Machine → Course → ℕ → Type 0
-  MarksFrom m c i = (k : ℕ) → k < length (c .steps) → ByteMark (instructionWord (waitingBefore m c k) (cycleAt v (i + k)))
+  MarksFrom m c i = (k : ℕ) → k < length (c .steps) → ByteMark (wordAbout (waitingBefore m c k) (cycleAt v (i + k) .lines))
 
   shift : (i k : ℕ) → i + suc k ≡ i + 1 + k
   shift i k = omega arith
@@ -128,7 +128,7 @@ module _ (v w : List ℕ) where
 
   marks-next : (m : Machine) (s : Step) (c : Course) (i : ℕ) → MarksFrom m (stepThen s c) i → MarksFrom (s .machine) c (i + 1)
   marks-next m s c i f k h =
-      subst (λ (j : ℕ). ByteMark (instructionWord (waitingBefore (s .machine) c k) (cycleAt v j))) (shift i k) (f (suc k) (omega arith))
+      subst (λ (j : ℕ). ByteMark (wordAbout (waitingBefore (s .machine) c k) (cycleAt v j .lines))) (shift i k) (f (suc k) (omega arith))
 
   -- a cycle and the rest of both runs
   module _ (m n : Machine) (t u : Turned) (i left budget : ℕ) (c d : Course) (a : TurnsAlike (m .registers) (n .registers) t u)
@@ -164,14 +164,13 @@ module _ (v w : List ℕ) where
       let here : CyclesAlike (m .registers .waiting) (cycleAt v i) (cycleAt w i) =
       subst (λ (j : ℕ). CyclesAlike (m .registers .waiting) (cycleAt v j) (cycleAt w j)) (add-zero i) (f 0 (omega arith) (omega arith) (omega arith)) in
       let a : TurnsAlike (m .registers) (n .registers) t u = turns-alike m n s (cycleAt v i) (cycleAt w i) here
-      (λ e. subst (λ (j : ℕ). ByteMark (instructionWord (m .registers .waiting) (cycleAt v j))) (add-zero i) (g 0 (turn-steps m (cycleAt v i) c e))) in
+      (λ e. subst (λ (j : ℕ). ByteMark (wordAbout (m .registers .waiting) (cycleAt v j .lines))) (add-zero i) (g 0 (turn-steps m (cycleAt v i) c e))) in
       subst (λ (x : Tells Report). CoursesAlike m n (turnThen (t .answer) (t .machine) c) (turnThen x (u .machine) d)) (a .answer)
       (after-alike m n t u i left budget c d a s (λ p q. runs-alike (t .machine) (u .machine) left (i + 1) budget (a .ends) p q) (t .answer .value) f g)
 
 module _ (m n : Machine) (v w : List ℕ) (budget room : ℕ) where
-  -- demand 3
-  pub byte-isolation : Premises m n v w budget room → Isolated m n (runOf m v budget room) (runOf n w budget room)
-  byte-isolation p = isolated-by m n (runOf m v budget room) (runOf n w budget room) (by-test (eqb (startRefusal m v room) 0) refl)
+  courses-alike : Premises m n v w budget room → CoursesAlike m n (runOf m v budget room) (runOf n w budget room)
+  courses-alike p = by-test (eqb (startRefusal m v room) 0) refl
     where
       same-number : startRefusal m v room ≡ startRefusal n w room
       same-number = ap₂ (λ (x : Waiting) (k : ℕ). refusal (startChecks x k room)) (p .starts .waiting) (p .number)
@@ -182,8 +181,8 @@ module _ (m n : Machine) (v w : List ℕ) (budget room : ℕ) where
         (λ k x y h. subst (λ (j : ℕ). CyclesAlike (waitingBefore m c k) (cycleAt v j) (cycleAt w j)) (sym (zero-add k))
             (subst (λ (d : Course). CyclesAlike (waitingBefore m d k) (cycleAt v k) (cycleAt w k)) e
             (p .cycles k (record { started = z; given = x; paid = y; next = subst⁻¹ (λ (d : Course). k ≤ length (d .steps)) e h })))),
-        (λ k h. subst (λ (j : ℕ). ByteMark (instructionWord (waitingBefore m c k) (cycleAt v j))) (sym (zero-add k))
-            (subst (λ (d : Course). ByteMark (instructionWord (waitingBefore m d k) (cycleAt v k))) e
+        (λ k h. subst (λ (j : ℕ). ByteMark (wordAbout (waitingBefore m c k) (cycleAt v j .lines))) (sym (zero-add k))
+            (subst (λ (d : Course). ByteMark (wordAbout (waitingBefore m d k) (cycleAt v k .lines))) e
             (p .marks k (subst⁻¹ (λ (d : Course). k < length (d .steps)) e h)))),
       )
 
@@ -222,11 +221,17 @@ module _ (m n : Machine) (v w : List ℕ) (budget room : ℕ) where
     marks = λ i h. p .marks i (reached i h);
   }
 
-  -- of two calls of `run`, by what it promises
-  module _ (r s : Ran) (before before′ after after′ : List ℕ) (p : Premises m n v w budget room)
+  -- demand 3: of any answers and lent reports that satisfy the statement of `run`
+  module _ (p : Premises m n v w budget room) (r s : Ran) (before before′ after after′ : List ℕ)
       (g : Gives m (runOf m v budget room) r before after) (h : Gives n (runOf n w budget room) s before′ after′) where
-    isolated : Isolated m n (runOf m v budget room) (runOf n w budget room)
-    isolated = byte-isolation p
+    abbrev c : Course
+    c = runOf m v budget room
+
+    abbrev d : Course
+    d = runOf n w budget room
+
+    alike : CoursesAlike m n c d
+    alike = courses-alike p
 
     -- the filled part of the lent reports
     filled-by : (m : Machine) (c : Course) (r : Ran) (before after : List ℕ) → Gives m c r before after → take (wordsPerReport * r .accepted) after ≡ reportsOf (c .steps)
@@ -237,16 +242,16 @@ module _ (m n : Machine) (v w : List ℕ) (budget room : ℕ) where
         ∙ take-at (reportsOf (c .steps)) (drop (length (reportsOf (c .steps))) before) (wordsPerReport * r .accepted) size
 
     -- a field of both answers
-    both : {A : Type 0} (f : Summary → A) → f (summaryOf m (runOf m v budget room)) ≡ f (summaryOf n (runOf n w budget room)) → f (ranTells r) ≡ f (ranTells s)
+    both : {A : Type 0} (f : Summary → A) → f (summaryOf m c) ≡ f (summaryOf n d) → f (ranTells r) ≡ f (ranTells s)
     both f e = ap f (g .answer) ∙ e ∙ sym (ap f (h .answer))
 
-    pub calls-isolated : IsolatedCalls m n r s after after′
-    calls-isolated = record {
-      filled = filled-by m (runOf m v budget room) r before after g ∙ isolated .reports ∙ sym (filled-by n (runOf n w budget room) s before′ after′ h);
-      ending = ending-one (r .ending) (s .ending) (both (λ (x : Summary). x .ending) (isolated .ending));
-      accepted = both (λ (x : Summary). x .accepted) (isolated .accepted);
-      completed = both (λ (x : Summary). x .completed) (isolated .completed);
-      ends = subst₂ (λ (x y : Summary). SameLowBytes (x .machine .registers) (y .machine .registers)) (sym (g .answer)) (sym (h .answer)) (isolated .ends);
-      first = subst⁻¹ (λ (x : Summary). UpperBytesKept (m .registers) (x .machine .registers)) (g .answer) (isolated .first);
-      second = subst⁻¹ (λ (x : Summary). UpperBytesKept (n .registers) (x .machine .registers)) (h .answer) (isolated .second);
+    pub byte-isolation : Isolated m n r s after after′
+    byte-isolation = record {
+      filled = filled-by m c r before after g ∙ same-reports m n c d alike ∙ sym (filled-by n d s before′ after′ h);
+      ending = ending-one (r .ending) (s .ending) (both (λ (x : Summary). x .ending) (same-ending m n c d alike));
+      accepted = both (λ (x : Summary). x .accepted) (same-length m n c d alike);
+      completed = both (λ (x : Summary). x .completed) (same-completed m n c d alike);
+      ends = subst₂ (λ (x y : Summary). SameLowBytes (x .machine .registers) (y .machine .registers)) (sym (g .answer)) (sym (h .answer)) (alike .ends);
+      first = subst⁻¹ (λ (x : Summary). UpperBytesKept (m .registers) (x .machine .registers)) (g .answer) (alike .first);
+      second = subst⁻¹ (λ (x : Summary). UpperBytesKept (n .registers) (x .machine .registers)) (h .answer) (alike .second);
     }

@@ -13,7 +13,7 @@ use Rattle.plan.specs.Plans.{workOf, planOf}
 use Rattle.machine.specs.declared.Waiting.{Waiting}
 use Rattle.machine.specs.declared.Waiting.the-variants.{Nothing, Held}
 use Rattle.machine.specs.declared.Machine.{Machine}
-use Rattle.machine.specs.Judging.{judgementOf, mayStart}
+use Rattle.machine.specs.Judging.{wordAbout, judgementOf, mayStart}
 use Rattle.machine.specs.Seeing.{viewOf}
 use Rattle.machine.specs.Acting.{outcomeFor, effectOf}
 use Rattle.machine.specs.Settling.{settledOf}
@@ -21,8 +21,9 @@ use Rattle.machine.specs.Reporting.{conditionOf}
 use Rattle.machine.specs.Cycles.{cycleOf}
 use Rattle.run.specs.Splitting.{cycleAt}
 use Rattle.run.specs.Courses.{Course, runFrom, reportsOf}
-use Rattle.run.specs.Runs.{runOf, summaryOf}
-use Rattle.demands.specs.Isolation.{instructionWord, ByteMark, CyclesAlike, waitingBefore, Reached, Premises, Isolated}
+use Rattle.run.specs.declared.Ran.{Ran}
+use Rattle.run.specs.Runs.{runOf, summaryOf, Gives}
+use Rattle.demands.specs.Isolation.{ByteMark, CyclesAlike, waitingBefore, Reached, Premises, Isolated}
 use Rattle.demands.proofs.Isolation.{byte-isolation}
 
 -- R1 and ACC are given, the rest is 0
@@ -69,13 +70,13 @@ premises-met = record {
         (record { lines = refl; input = refl; pins = refl })
     alike (suc (suc i)) r = absurd (omega (arith, r .given))
 
-    marked : (i : ℕ) → i < length (ours .steps) → ByteMark (instructionWord (waitingBefore here ours i) (cycleAt (words 0x33AA 0x7140) i))
+    marked : (i : ℕ) → i < length (ours .steps) → ByteMark (wordAbout (waitingBefore here ours i) (cycleAt (words 0x33AA 0x7140) i .lines))
     marked zero h = refl
-    marked (suc zero) h = subst⁻¹ (λ (w : Waiting). ByteMark (instructionWord w (cycleAt (words 0x33AA 0x7140) 1))) waits refl
+    marked (suc zero) h = subst⁻¹ (λ (w : Waiting). ByteMark (wordAbout w (cycleAt (words 0x33AA 0x7140) 1 .lines))) waits refl
     marked (suc (suc i)) h = absurd (omega (arith, h, both-accepted))
 
--- so demand 3 holds of them
-pub pair-isolated : Isolated here there ours theirs
+-- so demand 3 holds of any answers to them
+pub pair-isolated : (r s : Ran) (before before′ after after′ : List ℕ) → Gives here ours r before after → Gives there theirs s before′ after′ → Isolated here there r s after after′
 pair-isolated = byte-isolation here there (words 0x33AA 0x7140) (words 0x77AA 0x1240) 2 8 premises-met
 
 -- and it says something: both end in the same reports and the same low byte D0 of R1, below different upper bytes that stayed. A borrow

@@ -1,16 +1,17 @@
--- Demand 1, second part: the numbers of the answers, each exactly when; and what a refusal leaves as it was.
-use mathlib.Core.Path.{_≡_, refl, sym, ap, subst, _∙_}
+-- Demand 1, second part: the numbers of the answers, each exactly when, and what a refusal leaves as it was. Reader and writer first; then
+-- `run-refused-exactly` (1 to 4), `cycle-refused-exactly` (5 to 10), `run-numbers` and `started-never-four`; then one cycle, one step, words and named
+-- instructions.
+use mathlib.Core.Path.{_≡_, refl, sym, ap, ap₂, subst, _∙_}
 use mathlib.Core.Bool.{Bool, true, false, not}
-use mathlib.Core.List.{List}
-use mathlib.Core.Logic.{_↔_}
-use Prim.Native.Nat.{ℕ, _≤_, _<_}
+use mathlib.Core.List.{List, [], _∷_}
+use mathlib.Core.Logic.{_↔_, _⊎_, inl, inr, ⊎-elim}
+use Prim.Native.Nat.{ℕ, _*_, _%_, _≤_, _<_}
 use native.Mathlib.Omega.{arith}
-use lib.Dec.{eqb, leb, ltb}
+use lib.Dec.{eqb, ltb}
 use lib.ListN.{length}
-use borrow.Author.Tests.{eqb-true, eqb-false, ne-eqb, leb-true, leb-false, ltb-true, ltb-false}
-use Rattle.choice.specs.Checks.{refusal}
+use borrow.Author.Tests.{eqb-true, eqb-false, ne-eqb, ltb-true, ltb-false}
+use Rattle.choice.specs.Checks.{check, refusal}
 use Rattle.choice.specs.Tells.{Tells, refused, tells, Placed, refusedAt}
-use Rattle.choice.proofs.Spans.{never}
 use Rattle.choice.proofs.Tells.{refused-one, refused-at-one, tells-refused, told-number}
 use Rattle.choice.proofs.Picks.{unpicked}
 use Rattle.isa.specs.declared.Named.{Named}
@@ -18,8 +19,6 @@ use Rattle.isa.specs.declared.Decoded.{Decoded}
 use Rattle.isa.specs.declared.Encoded.{Encoded}
 use Rattle.isa.specs.Words.{namedBy, wordChecks, decodeOf, decodedTells, namedChecks, wordFor, encodeOf, encodedTells}
 use Rattle.isa.proofs.Laws.{decode-unique, encode-unique}
-use Rattle.machine.specs.declared.Waiting.{Waiting}
-use Rattle.machine.specs.declared.Waiting.the-variants.{Nothing, Held}
 use Rattle.machine.specs.declared.Machine.{Machine}
 use Rattle.machine.specs.declared.Words.{Words}
 use Rattle.machine.specs.declared.Core.{Core}
@@ -31,26 +30,23 @@ use Rattle.machine.specs.Judging.{Judgement, Refuse, checksOf, acceptedAs, judg
 use Rattle.machine.specs.Settling.{latched}
 use Rattle.machine.specs.Stepping.{machineFrom, coreOf, reportIn}
 use Rattle.machine.specs.Cycles.{Turned, answerTells, refusedTurn, turnOf, cycleOf}
-use Rattle.machine.proofs.Exactly.{begin-numbers, second-numbers, second-four, cycle-number}
-use Rattle.machine.proofs.Laws.{refused-unchanged, cycle-unique}
+use Rattle.machine.proofs.Exactly.{cycle-number, started-range}
+use Rattle.machine.proofs.Laws.{refused-unchanged, refused-numbered, cycle-unique}
 use Rattle.run.specs.declared.Ending.{Ending}
 use Rattle.run.specs.declared.Ending.the-variants.{Done, Stopped}
 use Rattle.run.specs.declared.Ran.{Ran}
-use Rattle.run.specs.Splitting.{cycleAt, cyclesIn}
-use Rattle.run.specs.Courses.{closing, turnThen}
-use Rattle.run.specs.Runs.{endingTells}
+use Rattle.run.specs.Splitting.{cycleAt, wordsPerCycle, cyclesIn, wordsPerReport}
+use Rattle.run.specs.Runs.{mostCycles, startRefusal, endingTells}
 use Rattle.run.proofs.Starting.{may-begin}
-use Rattle.run.specs.Following.{machineAt, turnAt}
+use Rattle.run.specs.Following.{machineAt, turnAt, Ends, CycleByCycle, CycleRefused}
+use Rattle.run.proofs.Laws.{cycle-by-cycle, returned, may-go-on}
 use Rattle.demands.specs.Calls.{Filling, Decodes, Encodes, RunInput, Runs, Cycles, ReadsTrace, WritesTrace, StepsMachine}
-use Rattle.demands.specs.Following.{EndsAs}
 use Rattle.trace.specs.declared.Filled.{Filled}
 use Rattle.trace.specs.Layout.{wordsPerRecord}
 use Rattle.trace.specs.Answers.{filledTells, leaves, Fills}
 use Rattle.trace.specs.Writing.{writeChecks}
 use Rattle.trace.proofs.Unique.{filled-one}
 use Rattle.trace.proofs.Exactly.{Refuses, read-refuses, write-refuses}
-use Rattle.demands.proofs.Isolation.{turn-steps}
-use Rattle.demands.proofs.Following.{follows, returned, whole}
 
 -- reader and writer: an answer is a refusal exactly when the definition's is, and lent output is then as it was
 module _ (answer : Placed ℕ) (made before : List ℕ) (r : Filled) (after : List ℕ) (f : Fills answer made r before after) (k i : ℕ) where
@@ -81,31 +77,15 @@ module _ (i : List ℕ × List ℕ) (o : Filling Filled) (p : WritesTrace i o) (
   pub write-refused-leaves : o .answer ≡ Filled.Refused k j → o .after ≡ i .1
   write-refused-leaves e = untouched _ _ (i .1) (o .answer) (o .after) p k j e
 
--- no cycle gives 1, 2 or 3
-no-cycle-gives : (waiting : Waiting) (c : Words) (k : ℕ) → 1 ≤ k → k ≤ 3 → refusal (checksOf waiting c) ≡ k → ⊥
-no-cycle-gives Nothing c k lo hi =
-    begin-numbers (λ (n : ℕ). n ≡ k → ⊥) (λ q. omega (arith, q, lo)) (λ q. omega (arith, q, hi)) (λ q. omega (arith, q, hi)) (λ q. omega (arith, q, hi)) (λ q. omega (arith, q, hi))
-    (λ q. omega (arith, q, hi)) (λ q. omega (arith, q, hi)) c
-no-cycle-gives (Held w) c k lo hi =
-    second-numbers (λ (n : ℕ). n ≡ k → ⊥) (λ q. omega (arith, q, lo)) (λ q. omega (arith, q, hi)) (λ q. omega (arith, q, hi)) (λ q. omega (arith, q, hi)) w c
+-- the checks of a whole run give no number over 4
+start-small : (one two three four : Bool) → refusal (check 1 one ∷ check 2 two ∷ check 3 three ∷ check 4 four ∷ []) ≤ 4
+start-small true two three four = omega arith
+start-small false true three four = omega arith
+start-small false false true four = omega arith
+start-small false false false true = omega arith
+start-small false false false false = omega arith
 
--- nor does one give 4 that starts with a word that may wait, or with none
-no-start-gives : (waiting : Waiting) (c : Words) → mayStart waiting ≡ true → refusal (checksOf waiting c) ≡ 4 → ⊥
-unfolding mayStart
-no-start-gives Nothing c h e =
-    begin-numbers (λ (n : ℕ). n ≡ 4 → ⊥) (λ q. omega (arith, q)) (λ q. omega (arith, q)) (λ q. omega (arith, q)) (λ q. omega (arith, q)) (λ q. omega (arith, q))
-    (λ q. omega (arith, q)) (λ q. omega (arith, q)) c e
-no-start-gives (Held w) c h e = never (sym (ap not h) ∙ second-four w c .0 e .1)
-
--- a refused cycle has a number
-refused-nonzero : (m : Machine) (c : Words) (k : ℕ) → cycleOf m c .answer ≡ refused k → k ≡ 0 → ⊥
-refused-nonzero m c k e z =
-    let clear : refusal (checksOf (m .registers .waiting) c) ≡ 0 = sym (cycle-number m c) ∙ ap (λ (t : Tells Report). t .number) e ∙ z in
-    let step : 0 < length (turnThen (refused k) (cycleOf m c .machine) (closing (refused 0)) .steps) =
-    subst (λ (t : Tells Report). 0 < length (turnThen t (cycleOf m c .machine) (closing (refused 0)) .steps)) e (turn-steps m c (closing (refused 0)) clear) in
-    omega (arith, step)
-
--- `run`: 1 to 4
+-- `run`
 module _ (i : RunInput) (o : Filling Ran) (p : Runs i o) where
   abbrev m : Machine
   m = i .machine
@@ -113,74 +93,91 @@ module _ (i : RunInput) (o : Filling Ran) (p : Runs i o) where
   abbrev words : List ℕ
   words = i .words
 
-  ending-same : (k l a b : ℕ) → Ending.Refused k a ≡ Ending.Refused l b → (k ≡ l) × (a ≡ b)
-  ending-same k l a b e = refused-at-one k l a b (ap endingTells e)
+  -- what the checks of the whole run give
+  abbrev whole : ℕ
+  whole = startRefusal m words (length (i .reports))
 
-  first-cycle : (k : ℕ) → 1 ≤ k → k ≤ 4 → whole i o p ≡ 0 → turnAt m words 0 .answer ≡ refused k → ⊥
-  first-cycle k lo hi z e = by-test (leb k 3) refl
+  whole-small : whole ≤ 4
+  whole-small =
+      start-small (not (eqb (length words % wordsPerCycle) 0)) (ltb mostCycles (cyclesIn (length words)))
+      (ltb (length (i .reports)) (wordsPerReport * cyclesIn (length words))) (not (mayStart (m .registers .waiting)))
+
+  by-cycles : whole ≡ 0 → CycleByCycle m words (i .budget) (o .answer) (i .reports) (o .after)
+  by-cycles = cycle-by-cycle m words (i .budget) (i .reports) (o .answer) (o .after) p
+
+  -- a run that is refused as a whole ends so; a started one ends at a refused cycle, which from a machine that may start has 5 to 10
+  whole-ends : (whole ≡ 0 → ⊥) → o .answer .ending ≡ Ending.Refused whole 0
+  whole-ends n = returned m words (i .budget) (i .reports) (o .answer) (o .after) p n .ending
+
+  cycle-ends : whole ≡ 0 → (k j : ℕ) → o .answer .ending ≡ Ending.Refused k j → CycleRefused m words (i .budget) k j
+  cycle-ends z k j e =
+      let f = by-cycles z in
+      let ends = subst (Ends m words (cyclesIn (length words)) (i .budget) (o .answer .accepted)) e (f .ends) in
+      let at : j ≡ o .answer .accepted = ends .0 in
+      record {
+        given = omega (arith, at, ends .1);
+        paid = omega (arith, at, ends .2);
+        before = λ l h. f .accepted l (omega (arith, at, h));
+        here = subst (λ (l : ℕ). turnAt m words l .answer ≡ refused k) (sym at) (ends .3);
+      }
+
+  cycle-range : whole ≡ 0 → (k j : ℕ) → CycleRefused m words (i .budget) k j → (5 ≤ k) × (k ≤ 10)
+  cycle-range z k j c =
+      let machine : Machine = machineAt m words j in
+      started-range (machine .registers .waiting) (cycleAt words j) k
+      (may-go-on m words (may-begin (m .registers .waiting) (length words) (length (i .reports)) z) j (c .before))
+      (sym (cycle-number machine (cycleAt words j)) ∙ ap (λ (t : Tells Report). t .number) (c .here))
+      (refused-numbered machine (cycleAt words j) k (c .here))
+
+  -- so a refusal is the whole run's, or that of a cycle
+  by-start : (k j : ℕ) → o .answer .ending ≡ Ending.Refused k j → ((whole ≡ k) × (j ≡ 0)) ⊎ ((whole ≡ 0) × CycleRefused m words (i .budget) k j)
+  by-start k j e = by-test (eqb whole 0) refl
     where
-      given : refusal (checksOf (m .registers .waiting) (cycleAt words 0)) ≡ k
-      given = sym (cycle-number m (cycleAt words 0)) ∙ ap (λ (t : Tells Report). t .number) e
-
-      by-test : (b : Bool) → leb k 3 ≡ b → ⊥
-      by-test true q = no-cycle-gives (m .registers .waiting) (cycleAt words 0) k lo (leb-true k 3 q) given
+      by-test : (b : Bool) → eqb whole 0 ≡ b → ((whole ≡ k) × (j ≡ 0)) ⊎ ((whole ≡ 0) × CycleRefused m words (i .budget) k j)
+      by-test true q = let z = eqb-true whole 0 q in inr (z, cycle-ends z k j e)
       by-test false q =
-          let four : k ≡ 4 = omega (arith, hi, leb-false k 3 q) in
-          no-start-gives (m .registers .waiting) (cycleAt words 0) (may-begin (m .registers .waiting) (length words) (length (i .reports)) z) (given ∙ four)
+          let same = refused-at-one whole k 0 j (ap endingTells (sym (whole-ends (eqb-false whole 0 q)) ∙ e)) in
+          inl (same .0, sym (same .1))
 
-  pub run-refused-exactly : (k : ℕ) → 1 ≤ k → k ≤ 4 → (o .answer .ending ≡ Ending.Refused k 0) ↔ (whole i o p ≡ k)
-  run-refused-exactly k lo hi = ((λ e. by-test (eqb (whole i o p) 0) refl e), back)
+  -- 1 to 4: the checks of the whole run give the number; the index is 0
+  pub run-refused-exactly : (k j : ℕ) → 1 ≤ k → k ≤ 4 → (o .answer .ending ≡ Ending.Refused k j) ↔ ((whole ≡ k) × (j ≡ 0))
+  run-refused-exactly k j lo hi = ((λ e. ⊎-elim (λ h. h) (λ h. absurd (omega (arith, hi, cycle-range (h .0) k j (h .1) .0))) (by-start k j e)), back)
     where
-      by-test : (b : Bool) → eqb (whole i o p) 0 ≡ b → o .answer .ending ≡ Ending.Refused k 0 → whole i o p ≡ k
-      by-test true q e =
-          let z : whole i o p ≡ 0 = eqb-true (whole i o p) 0 q in
-          let ends = subst (EndsAs m words (cyclesIn (length words)) (i .budget) (o .answer .accepted)) e (follows i o p z .ends) in
-          absurd (first-cycle k lo hi z (subst (λ (l : ℕ). turnAt m words l .answer ≡ refused k) (sym (ends .0)) (ends .3)))
-      by-test false q e = ending-same (whole i o p) k 0 0 (sym (returned i o p (eqb-false (whole i o p) 0 q) .ending) ∙ e) .0
+      back : (whole ≡ k) × (j ≡ 0) → o .answer .ending ≡ Ending.Refused k j
+      back h = whole-ends (λ z. omega (arith, z, h .0, lo)) ∙ ap₂ Ending.Refused (h .0) (sym (h .1))
 
-      back : whole i o p ≡ k → o .answer .ending ≡ Ending.Refused k 0
-      back e = returned i o p (λ z. omega (arith, z, e, lo)) .ending ∙ ap (λ (l : ℕ). Ending.Refused l 0) e
-
-  -- 5 to 10: cycle j is refused, all before it are accepted, and the budget reaches it
-  pub record CycleRefused (k j : ℕ) : Type 0 where
-    pub given : j < cyclesIn (length words)
-    pub paid : j < i .budget
-    pub before : (l : ℕ) → l < j → turnAt m words l .answer .number ≡ 0
-    pub here : turnAt m words j .answer ≡ refused k
-
-  pub cycle-refused-exactly : whole i o p ≡ 0 → (k j : ℕ) → (k ≡ 0 → ⊥) → (o .answer .ending ≡ Ending.Refused k j) ↔ CycleRefused k j
-  cycle-refused-exactly z k j nonzero = (to, (λ c. by-ending c (o .answer .ending) (follows i o p z .ends)))
+  -- 5 to 10: the run is started, and cycle j is refused, all before it being accepted and the budget reaching it
+  pub cycle-refused-exactly : (k j : ℕ) → 5 ≤ k → k ≤ 10 → (o .answer .ending ≡ Ending.Refused k j) ↔ ((whole ≡ 0) × CycleRefused m words (i .budget) k j)
+  cycle-refused-exactly k j lo hi =
+      ((λ e. ⊎-elim (λ h. absurd (omega (arith, lo, h .0, whole-small))) (λ h. h) (by-start k j e)), (λ h. by-ending (h .0) (h .1) (o .answer .ending) (by-cycles (h .0) .ends)))
     where
-      to : o .answer .ending ≡ Ending.Refused k j → CycleRefused k j
-      to e =
-          let f = follows i o p z in
-          let ends = subst (EndsAs m words (cyclesIn (length words)) (i .budget) (o .answer .accepted)) e (f .ends) in
-          let at : j ≡ o .answer .accepted = ends .0 in
-          record {
-            given = omega (arith, at, ends .1);
-            paid = omega (arith, at, ends .2);
-            before = λ l h. f .accepted l (omega (arith, at, h));
-            here = subst (λ (l : ℕ). turnAt m words l .answer ≡ refused k) (sym at) (ends .3);
-          }
-
       -- cycle j is not accepted
-      not-past : CycleRefused k j → j < o .answer .accepted → ⊥
-      not-past c h = nonzero (sym (ap (λ (t : Tells Report). t .number) (c .here)) ∙ follows i o p z .accepted j h)
+      not-past : whole ≡ 0 → CycleRefused m words (i .budget) k j → j < o .answer .accepted → ⊥
+      not-past z c h =
+          let accepted : k ≡ 0 = sym (ap (λ (t : Tells Report). t .number) (c .here)) ∙ by-cycles z .accepted j h in
+          omega (arith, lo, accepted)
 
-      by-ending : CycleRefused k j → (x : Ending) → EndsAs m words (cyclesIn (length words)) (i .budget) (o .answer .accepted) x → x ≡ Ending.Refused k j
-      by-ending c Done h = absurd (not-past c (omega (arith, h, c .given)))
-      by-ending c Stopped h = absurd (not-past c (omega (arith, h .0, c .paid)))
-      by-ending c (Ending.Refused l a) h = by-place (ltb (o .answer .accepted) j) (ltb j (o .answer .accepted)) refl refl
+      by-ending : whole ≡ 0 → CycleRefused m words (i .budget) k j → (x : Ending) → Ends m words (cyclesIn (length words)) (i .budget) (o .answer .accepted) x → x ≡ Ending.Refused k j
+      by-ending z c Done h = absurd (not-past z c (omega (arith, h, c .given)))
+      by-ending z c Stopped h = absurd (not-past z c (omega (arith, h .0, c .paid)))
+      by-ending z c (Ending.Refused l a) h = by-place (ltb (o .answer .accepted) j) (ltb j (o .answer .accepted)) refl refl
         where
           by-place : (b d : Bool) → ltb (o .answer .accepted) j ≡ b → ltb j (o .answer .accepted) ≡ d → Ending.Refused l a ≡ Ending.Refused k j
           by-place true d q r =
-              absurd (refused-nonzero (machineAt m words (o .answer .accepted)) (cycleAt words (o .answer .accepted)) l (h .3)
+              absurd (refused-numbered (machineAt m words (o .answer .accepted)) (cycleAt words (o .answer .accepted)) l (h .3)
               (sym (ap (λ (t : Tells Report). t .number) (h .3)) ∙ c .before (o .answer .accepted) (ltb-true (o .answer .accepted) j q)))
-          by-place false true q r = absurd (not-past c (ltb-true j (o .answer .accepted) r))
+          by-place false true q r = absurd (not-past z c (ltb-true j (o .answer .accepted) r))
           by-place false false q r =
               let at : o .answer .accepted ≡ j = omega (arith, ltb-false (o .answer .accepted) j q, ltb-false j (o .answer .accepted) r) in
               let same : l ≡ k = refused-one l k (sym (h .3) ∙ ap (λ (x : ℕ). turnAt m words x .answer) at ∙ c .here) in
               ap (λ (x : ℕ). Ending.Refused x a) same ∙ ap (Ending.Refused k) (h .0 ∙ at)
+
+  -- and no run ends in another number: a started one never in 4
+  pub run-numbers : (k j : ℕ) → o .answer .ending ≡ Ending.Refused k j → k ≤ 10
+  run-numbers k j e = ⊎-elim (λ h. omega (arith, h .0, whole-small)) (λ h. cycle-range (h .0) k j (h .1) .1) (by-start k j e)
+
+  pub started-never-four : whole ≡ 0 → (j : ℕ) → o .answer .ending ≡ Ending.Refused 4 j → ⊥
+  started-never-four z j e = omega (arith, cycle-range z 4 j (cycle-ends z 4 j e) .0)
 
 -- a refused cycle, alone, gives the machine back
 pub cycle-refused-leaves : (m : Machine) (c : Words) (t : Turn) → Cycles (m, c) t → (k : ℕ) → t .answer ≡ Answer.Refused k → t .machine ≡ m

@@ -27,13 +27,13 @@ use Rattle.machine.specs.declared.Words.{Words}
 use Rattle.machine.specs.declared.View.{View}
 use Rattle.machine.specs.declared.Effect.{Effect}
 use Rattle.machine.specs.Pins.{ienHigh, dleHigh}
-use Rattle.machine.specs.Judging.{Refuse, Wait, beginChecks, checksOf, acceptedAs, perform, judgementOf}
+use Rattle.machine.specs.Judging.{Refuse, Wait, beginChecks, checksOf, wordAbout, acceptedAs, perform, judgementOf}
 use Rattle.machine.specs.Seeing.{viewOf}
 use Rattle.machine.specs.Acting.{effectOf}
 use Rattle.machine.specs.Settling.{latched, ramAfter, accAfter, settledOf}
 use Rattle.machine.specs.Cycles.{Turned, turnFrom, performedTurn, turnOf, cycleOf}
-use Rattle.machine.proofs.Kept.{byte-keeps-ram, byte-keeps-acc}
-use Rattle.demands.specs.Isolation.{lowByte, SameLowBytes, UpperBytesKept, instructionWord, ByteMark, LinesAlike, CyclesAlike}
+use Rattle.machine.proofs.Kept.{settled-ram, settled-acc}
+use Rattle.demands.specs.Isolation.{lowByte, SameLowBytes, UpperBytesKept, ByteMark, LinesAlike, CyclesAlike}
 
 -- what a byte write leaves in low bytes
 map-set : (f : ℕ → ℕ) (l : List ℕ) (i x : ℕ) → map f (set l i x) ≡ set (map f l) i (f x)
@@ -115,8 +115,8 @@ module _ (i : Named) (p : Plan) (r s : Registers) (pins : ℕ) (same : SameLowBy
   by-effect e = record {
     answer = rw (same .status);
     ends = settled-alike (p .register) r s e pins same;
-    first = record { ram = byte-keeps-ram (p .register) r e pins; acc = byte-keeps-acc (p .register) r e pins };
-    second = record { ram = byte-keeps-ram (p .register) s e pins; acc = byte-keeps-acc (p .register) s e pins };
+    first = record { ram = settled-ram (p .register) r e pins; acc = settled-acc (p .register) r e pins };
+    second = record { ram = settled-ram (p .register) s e pins; acc = settled-acc (p .register) s e pins };
   }
 
   performed-alike : (x y : ℕ) → p .mode ≡ Byte → lowByte x ≡ lowByte y → TurnsAlike r s (performedTurn i p r x pins) (performedTurn i p s y pins)
@@ -173,7 +173,7 @@ module _ (m n : Machine) (same : SameLowBytes (m .registers) (n .registers)) (c 
       (performed-alike (namedBy w) (planOf (namedBy w)) r s (c .pins) after-latch x y (byte-plan w b) e)
 
   -- an accepted one
-  accepted-alike : (w : Waiting) → LinesAlike w (c .lines) (d .lines) → ByteMark (instructionWord w c)
+  accepted-alike : (w : Waiting) → LinesAlike w (c .lines) (d .lines) → ByteMark (wordAbout w (c .lines))
       → TurnsAlike (m .registers) (n .registers) (turnOf (acceptedAs w c) m r c) (turnOf (acceptedAs w d′) n s d′)
   accepted-alike Nothing e b =
       subst (λ (l : ℕ). TurnsAlike (m .registers) (n .registers) (turnOf (acceptedAs Nothing c) m r c)
@@ -191,7 +191,7 @@ module _ (m n : Machine) (same : SameLowBytes (m .registers) (n .registers)) (c 
   numbers Nothing e = ap (λ (l : ℕ). refusal (beginChecks (record { lines = l; input = d .input; pins = c .pins }))) e
   numbers (Held w) e = refl
 
-  turns-by : (w : Waiting) → LinesAlike w (c .lines) (d .lines) → (refusal (checksOf w c) ≡ 0 → ByteMark (instructionWord w c))
+  turns-by : (w : Waiting) → LinesAlike w (c .lines) (d .lines) → (refusal (checksOf w c) ≡ 0 → ByteMark (wordAbout w (c .lines)))
       → TurnsAlike (m .registers) (n .registers) (turnOf (judgementOf w c) m r c) (turnOf (judgementOf w d′) n s d′)
   unfolding judgementOf
   turns-by w e b =
@@ -205,7 +205,7 @@ module _ (m n : Machine) (same : SameLowBytes (m .registers) (n .registers)) (c 
       by-test false q = refuses (refusal (checksOf w c))
 
   -- a mark is asked only of a word that is not refused
-  pub turns-alike : (refusal (checksOf (m .registers .waiting) c) ≡ 0 → ByteMark (instructionWord (m .registers .waiting) c))
+  pub turns-alike : (refusal (checksOf (m .registers .waiting) c) ≡ 0 → ByteMark (wordAbout (m .registers .waiting) (c .lines)))
       → TurnsAlike (m .registers) (n .registers) (cycleOf m c) (cycleOf n d)
   unfolding cycleOf
   turns-alike b =

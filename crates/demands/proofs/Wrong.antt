@@ -1,17 +1,23 @@
--- None of the five wrong emulators keeps what `run` promises: each is refuted by a run of one or two cycles.
+-- None of the six wrong emulators keeps what `run` promises: each is refuted by a run of one or two cycles (at the end). The right one does, on
+-- every input: `right-faithful`, before them.
 use mathlib.Core.Path.{_≡_, refl, sym, ap, _∙_}
+use mathlib.Core.Bool.{Bool, true, false}
 use mathlib.Core.List.{List, [], _∷_, _++_}
-use Prim.Native.Nat.{ℕ, _*_}
+use mathlib.Core.Option.{Option, none, some}
+use Prim.Native.Nat.{ℕ, zero, suc, _*_}
 use native.Mathlib.Omega.{arith}
+use lib.Dec.{eqb}
 use lib.ListN.{length, take, drop, replicate}
-use Rattle.choice.specs.Tells.{acceptedWhole}
+use Rattle.choice.specs.Pick.{pick}
+use Rattle.choice.specs.Tells.{Tells, refused, Placed, acceptedWhole}
 use Rattle.alu.specs.Width.{complement, writeBack}
 use Rattle.alu.specs.Flags.{flagged, withSign}
 use Rattle.alu.specs.Operations.{plus, oneOperand, outcomeOf}
 use Rattle.isa.specs.Words.{decodeOf, takesImmediate}
 use Rattle.plan.specs.Plans.{workOf, planOf}
-use Rattle.machine.specs.declared.Waiting.the-variants.{Nothing}
 use Rattle.machine.specs.declared.Machine.{Machine}
+use Rattle.machine.specs.declared.Words.{Words}
+use Rattle.machine.specs.declared.Report.{Report}
 use Rattle.machine.specs.Judging.{judgementOf, mayStart}
 use Rattle.machine.specs.Seeing.{viewOf}
 use Rattle.machine.specs.Acting.{outcomeFor, effectOf}
@@ -20,20 +26,52 @@ use Rattle.machine.specs.Reporting.{conditionOf}
 use Rattle.machine.specs.Cycles.{cycleOf}
 use Rattle.run.specs.declared.Ending.the-variants.{Done}
 use Rattle.run.specs.declared.Ran.{Ran}
-use Rattle.run.specs.Courses.{Course, done, runFrom, reportsOf}
-use Rattle.run.specs.Runs.{runOf, Summary, summaryOf, ranTells}
+use Rattle.run.specs.Splitting.{cyclesOf}
+use Rattle.run.specs.Courses.{Finish, done, Course, closing, turnThen, runFrom, reportsOf}
+use Rattle.run.specs.Runs.{startRefusal, runOf, zeroMachine, Summary, placed, summaryOf, endingTells, ranTells}
 use Rattle.run.proofs.Laws.{ending-one}
 use Rattle.demands.specs.Calls.{RunInput}
-use Rattle.demands.specs.Wrong.{Emulator, Faithful, RefusesEverything, FixedAnswer, NeverChanges, CopiesFirst, InventsCounts}
+use Rattle.demands.specs.Wrong.{Emulator, Faithful, RefusesEverything, FixedAnswer, NeverChanges, CopiesFirst, InventsCounts, CountsEveryCycle, courseOf, endingOf, right}
 
-abbrev allZero : Machine
-allZero = record { registers = record { ram = replicate 32 0; acc = 0; latch = 0; status = 0; waiting = Nothing } }
+-- a course closes with a refusal, or is done or stopped
+abbrev Closed : Tells Finish → Type 0
+Closed close = (k : ℕ) → endingTells (endingOf (placed close k)) ≡ placed close k
+
+turn-closed : (answer : Tells Report) (v : Option Report) (next : Machine) (rest : Course) → Closed (rest .close)
+    → Closed (turnThen (record { number = answer .number; value = v }) next rest .close)
+turn-closed answer (some r) next rest c = c
+turn-closed answer none next rest c = λ k. refl
+
+cycles-closed : (m : Machine) (budget : ℕ) (cycles : List Words) → Closed (runFrom m budget cycles .close)
+unfolding runFrom
+cycles-closed m budget [] = λ k. refl
+cycles-closed m zero (c ∷ cycles) = λ k. refl
+cycles-closed m (suc budget) (c ∷ cycles) =
+    turn-closed (cycleOf m c .answer) (cycleOf m c .answer .value) (cycleOf m c .machine) (runFrom (cycleOf m c .machine) budget cycles)
+    (cycles-closed (cycleOf m c .machine) budget cycles)
+
+run-closed : (i : RunInput) → Closed (courseOf i .close)
+unfolding runOf
+run-closed i = by-test (eqb (startRefusal (i .machine) (i .words) (length (i .reports))) 0)
+  where
+    by-test : (b : Bool) → Closed (pick b (runFrom (i .machine) (i .budget) (cyclesOf (i .words))) (closing (refused (startRefusal (i .machine) (i .words) (length (i .reports))))) .close)
+    by-test true = cycles-closed (i .machine) (i .budget) (cyclesOf (i .words))
+    by-test false = λ k. refl
+
+-- the definition itself keeps what `run` promises
+pub right-faithful : Faithful right
+right-faithful i = record {
+  answer =
+      let s : Summary = summaryOf (i .machine) (courseOf i) in
+      ap (λ (e : Placed Finish). record { machine = s .machine; ending = e; accepted = s .accepted; completed = s .completed }) (run-closed i (length (courseOf i .steps)));
+  written = refl;
+}
 
 -- cycles with all pins low, from all zero, with budget and room for two
 abbrev on : List ℕ → RunInput
-on words = record { machine = allZero; words = words; budget = 2; reports = replicate 8 0 }
+on words = record { machine = zeroMachine; words = words; budget = 2; reports = replicate 8 0 }
 
--- a no-operation; a word that is not on the list; an increment of ACC; and the first and the third together
+-- a no-operation; a word that is not on the list; an increment of ACC; the first and the third together; and a first immediate cycle
 abbrev nothing : RunInput
 nothing = on (0x7140 ∷ 0 ∷ 0 ∷ [])
 
@@ -46,8 +84,8 @@ increment = on (0xFC81 ∷ 0 ∷ 0 ∷ [])
 abbrev both : RunInput
 both = on (0x7140 ∷ 0 ∷ 0 ∷ 0xFC81 ∷ 0 ∷ 0 ∷ [])
 
-abbrev courseOf : RunInput → Course
-courseOf i = runOf (i .machine) (i .words) (i .budget) (length (i .reports))
+abbrev begun : RunInput
+begun = on (0xF8E1 ∷ 0 ∷ 0 ∷ [])
 
 abbrev toldOf : RunInput → Summary
 toldOf i = summaryOf (i .machine) (courseOf i)
@@ -64,6 +102,10 @@ nothing-accepted = refl
 unlisted-accepted : toldOf unlisted .accepted ≡ 0
 unfolding decodeOf takesImmediate workOf planOf judgementOf mayStart viewOf outcomeFor effectOf settledOf conditionOf cycleOf runFrom runOf
 unlisted-accepted = refl
+
+begun-counts : (toldOf begun .accepted ≡ 1) × (toldOf begun .completed ≡ 0)
+unfolding decodeOf takesImmediate workOf planOf judgementOf mayStart viewOf outcomeFor effectOf settledOf conditionOf cycleOf runFrom runOf
+begun-counts = (refl, refl)
 
 increment-acc : toldOf increment .machine .registers .acc ≡ 1
 unfolding complement writeBack flagged withSign plus oneOperand outcomeOf decodeOf takesImmediate workOf planOf judgementOf mayStart viewOf outcomeFor effectOf settledOf conditionOf cycleOf runFrom runOf
@@ -121,3 +163,9 @@ module _ (e : Emulator) (f : Faithful e) where
 
   pub not-inventing-counts : InventsCounts e → ⊥
   not-inventing-counts w = counts-differ (w nothing unlisted refl .0)
+
+  pub not-counting-every-cycle : CountsEveryCycle e → ⊥
+  not-counting-every-cycle w =
+      let one : e begun .answer .accepted ≡ 1 = said (λ (s : Summary). s .accepted) begun ∙ begun-counts .0 in
+      let none : e begun .answer .completed ≡ 0 = said (λ (s : Summary). s .completed) begun ∙ begun-counts .1 in
+      omega (arith, one, none, w begun)

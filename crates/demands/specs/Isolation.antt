@@ -11,11 +11,12 @@ use Rattle.machine.specs.declared.Waiting.the-variants.{Nothing, Held}
 use Rattle.machine.specs.declared.Registers.{Registers}
 use Rattle.machine.specs.declared.Machine.{Machine}
 use Rattle.machine.specs.declared.Words.{Words}
+use Rattle.machine.specs.Judging.{wordAbout}
 use Rattle.machine.specs.Settling.{upperByte}
 use Rattle.run.specs.declared.Ran.{Ran}
 use Rattle.run.specs.Splitting.{cycleAt, cyclesIn, wordsPerReport}
-use Rattle.run.specs.Courses.{Course, machineAfter, reportsOf}
-use Rattle.run.specs.Runs.{startRefusal, runOf, summaryOf}
+use Rattle.run.specs.Courses.{Course, machineAfter}
+use Rattle.run.specs.Runs.{startRefusal, runOf}
 
 abbrev pub lowByte : ℕ → ℕ
 lowByte x = low (widthOf Byte) x
@@ -32,11 +33,6 @@ pub record SameLowBytes (a b : Registers) : Type 0 where
 pub record UpperBytesKept (start end : Registers) : Type 0 where
   pub ram : map upperByte (end .ram) ≡ map upperByte (start .ram)
   pub acc : upperByte (end .acc) ≡ upperByte (start .acc)
-
--- the instruction word of a cycle: the one that waits, or its lines
-abbrev pub instructionWord : Waiting → Words → ℕ
-instructionWord Nothing c = c .lines
-instructionWord (Held w) c = w
 
 abbrev pub ByteMark : ℕ → Type 0
 ByteMark w = markOf w ≡ 0
@@ -74,7 +70,7 @@ module _ (m n : Machine) (v w : List ℕ) (budget room : ℕ) where
     pub number : length v ≡ length w
     pub starts : SameLowBytes (m .registers) (n .registers)
     pub cycles : (i : ℕ) → Reached m v budget room i → CyclesAlike (waitingBefore m first i) (cycleAt v i) (cycleAt w i)
-    pub marks : (i : ℕ) → i < length (first .steps) → ByteMark (instructionWord (waitingBefore m first i) (cycleAt v i))
+    pub marks : (i : ℕ) → i < length (first .steps) → ByteMark (wordAbout (waitingBefore m first i) (cycleAt v i .lines))
 
   -- a stricter reading: all cycles differ only so, those not reached too, where the word that waits at the run's end says what is immediate
   -- data; and the byte mark is asked of the refused word as well, and of a word that waits at the start even where no cycle is reached
@@ -82,22 +78,12 @@ module _ (m n : Machine) (v w : List ℕ) (budget room : ℕ) where
     pub number : length v ≡ length w
     pub starts : SameLowBytes (m .registers) (n .registers)
     pub cycles : (i : ℕ) → i < cyclesIn (length v) → CyclesAlike (waitingBefore m first i) (cycleAt v i) (cycleAt w i)
-    pub marks : (i : ℕ) → Reached m v budget room i → ByteMark (instructionWord (waitingBefore m first i) (cycleAt v i))
+    pub marks : (i : ℕ) → Reached m v budget room i → ByteMark (wordAbout (waitingBefore m first i) (cycleAt v i .lines))
     pub waiting : (word : ℕ) → m .registers .waiting ≡ Held word → ByteMark word
 
--- what follows: the same reports, ending with refusal and place, and counts; the same status, waiting word and low bytes; and in each
--- run the upper bytes that it started with
-pub record Isolated (m n : Machine) (c d : Course) : Type 0 where
-  pub reports : reportsOf (c .steps) ≡ reportsOf (d .steps)
-  pub ending : summaryOf m c .ending ≡ summaryOf n d .ending
-  pub accepted : summaryOf m c .accepted ≡ summaryOf n d .accepted
-  pub completed : summaryOf m c .completed ≡ summaryOf n d .completed
-  pub ends : SameLowBytes (summaryOf m c .machine .registers) (summaryOf n d .machine .registers)
-  pub first : UpperBytesKept (m .registers) (summaryOf m c .machine .registers)
-  pub second : UpperBytesKept (n .registers) (summaryOf n d .machine .registers)
-
--- the same of two answers of `run`, and of the lent reports after the calls as far as they are filled
-pub record IsolatedCalls (m n : Machine) (r s : Ran) (reports reports′ : List ℕ) : Type 0 where
+-- what is said of the answers of two runs, and of the lent reports after the calls: the same reports, as far as they are filled, the same ending
+-- with number and index, and the same counts; the same status, waiting word and low bytes; and in each run the upper bytes that it started with
+pub record Isolated (m n : Machine) (r s : Ran) (reports reports′ : List ℕ) : Type 0 where
   pub filled : take (wordsPerReport * r .accepted) reports ≡ take (wordsPerReport * s .accepted) reports′
   pub ending : r .ending ≡ s .ending
   pub accepted : r .accepted ≡ s .accepted

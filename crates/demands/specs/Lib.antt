@@ -1,5 +1,5 @@
 pub mod Isolation
 pub mod Calls
-pub mod Following
 pub mod Wrong
 pub mod Examples
+pub mod Contracts

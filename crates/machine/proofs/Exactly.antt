@@ -1,9 +1,12 @@
--- Each of 4 to 10 is given exactly when its condition holds and no earlier one does; and what is accepted completes.
-use mathlib.Core.Path.{_≡_, refl, _∙_, sym, subst}
+-- Each of 4 to 10 is given exactly when its condition holds and no earlier one does: with nothing waiting `begin-five`, `begin-six`,
+-- `begin-word` (7, 8 and 9) and `begin-ten`, with a word waiting `second-four`, `second-five` and `second-six`; these are the numbers of the
+-- cycle (`cycle-number`). From a machine that may start, 4 is not among them (`started-range`).
+use mathlib.Core.Path.{_≡_, refl, _∙_, sym, ap, subst}
 use mathlib.Core.Bool.{Bool, true, false, not}
 use mathlib.Core.List.{List, [], _∷_}
 use mathlib.Core.Logic.{_↔_, ⊎-elim}
-use Prim.Native.Nat.{ℕ}
+use Prim.Native.Nat.{ℕ, _≤_}
+use native.Mathlib.Omega.{arith}
 use lib.Dec.{T, eqb}
 use borrow.Author.Tests.{eqb-true}
 use Rattle.choice.specs.Pick.{pick}
@@ -20,7 +23,7 @@ use Rattle.machine.specs.declared.Registers.{Registers}
 use Rattle.machine.specs.declared.Machine.{Machine}
 use Rattle.machine.specs.declared.Words.{Words}
 use Rattle.machine.specs.Pins.{ienHigh, strayPin, busClash}
-use Rattle.machine.specs.Judging.{Judgement, Refuse, Wait, OfWord, beginChecks, secondChecks, checksOf, acceptedAs, judged, perform, judgementOf}
+use Rattle.machine.specs.Judging.{Judgement, Refuse, Wait, OfWord, beginChecks, secondChecks, checksOf, acceptedAs, judged, perform, judgementOf, mayStart}
 use Rattle.machine.specs.Settling.{latched}
 use Rattle.machine.specs.Cycles.{turnOf, cycleOf}
 
@@ -138,3 +141,20 @@ module _ (P : ℕ → Type 0) (none : P 0) (five : P 5) (six : P 6) where
       by-first : (b : Bool) → P (refusal (check 4 b ∷ check 5 (strayPin (c .pins)) ∷ check 6 (busClash (c .pins)) ∷ []))
       by-first true = four
       by-first false = by-pins (strayPin (c .pins)) (busClash (c .pins)) [] none
+
+-- a cycle from a machine that may start is refused with none but 5 to 10
+abbrev InRange : ℕ → ℕ → Type 0
+InRange k j = j ≡ k → (k ≡ 0 → ⊥) → (5 ≤ k) × (k ≤ 10)
+
+in-range : (k j : ℕ) → 5 ≤ j → j ≤ 10 → InRange k j
+in-range k j lo hi q n = (omega (arith, q, lo), omega (arith, q, hi))
+
+pub started-range : (waiting : Waiting) (c : Words) (k : ℕ) → mayStart waiting ≡ true → refusal (checksOf waiting c) ≡ k → (k ≡ 0 → ⊥) → (5 ≤ k) × (k ≤ 10)
+unfolding mayStart
+started-range Nothing c k may e n =
+    begin-numbers (InRange k) (λ q m. absurd (m (sym q))) (in-range k 5 (omega arith) (omega arith)) (in-range k 6 (omega arith) (omega arith))
+    (in-range k 7 (omega arith) (omega arith)) (in-range k 8 (omega arith) (omega arith)) (in-range k 9 (omega arith) (omega arith))
+    (in-range k 10 (omega arith) (omega arith)) c e n
+started-range (Held w) c k may e n =
+    second-numbers (InRange k) (λ q m. absurd (m (sym q))) (in-range k 5 (omega arith) (omega arith)) (in-range k 6 (omega arith) (omega arith))
+    (λ q m. absurd (never (sym (ap not may) ∙ second-four w c .0 (e ∙ sym q) .1))) w c e n

@@ -29,7 +29,7 @@ use Rattle.plan.specs.declared.Source.{Source}
 use Rattle.plan.specs.declared.Destination.{Destination}
 use Rattle.plan.specs.declared.Destination.the-variants.{ToRam}
 use Rattle.plan.specs.declared.Plan.{Plan}
-use Rattle.plan.specs.Tables.{twoOperandAt, oneOperandAt, ramPairR, ramPairS, pairR, pairS, sourceAt, ramPairTo, sorTo, noRamTo}
+use Rattle.plan.specs.Tables.{at, twoOperands, oneOperands, ramPairR, ramPairS, pairR, pairS, sources, ramPairTo, sorTo, noRamTo}
 use Rattle.plan.specs.Plans.{workOf, planOf}
 use Rattle.machine.specs.declared.Waiting.{Waiting}
 use Rattle.machine.specs.declared.Waiting.the-variants.{Nothing}
@@ -123,30 +123,30 @@ module _ (m : Machine) (c : Words) (rep : Report) (answered : cycleOf m c .answe
   -- the two-operand families
   pub tor1-cycle : InFamily Tor1 w
       → cycleOf m c .machine
-      ≡ leaves (ramPairTo (fieldA w)) (TwoOperandOn (twoOperandAt (fieldB w)) (sees (fieldC w) (ramPairR (fieldA w))) (sees (fieldC w) (ramPairS (fieldA w))))
+      ≡ leaves (at ramPairTo (fieldA w)) (TwoOperandOn (at twoOperands (fieldB w)) (sees (fieldC w) (at ramPairR (fieldA w))) (sees (fieldC w) (at ramPairS (fieldA w))))
   unfolding workOf outcomeFor viewOf
   tor1-cycle h = by-family Tor1 h
 
   pub tor2-cycle : InFamily Tor2 w
       → cycleOf m c .machine
-      ≡ leaves ToRam (TwoOperandOn (twoOperandAt (fieldB w)) (sees (fieldC w) (pairR (fieldA w))) (sees (fieldC w) (pairS (fieldA w))))
+      ≡ leaves ToRam (TwoOperandOn (at twoOperands (fieldB w)) (sees (fieldC w) (at pairR (fieldA w))) (sees (fieldC w) (at pairS (fieldA w))))
   unfolding workOf outcomeFor viewOf
   tor2-cycle h = by-family Tor2 h
 
   pub tonr-cycle : InFamily Tonr w
       → cycleOf m c .machine
-      ≡ leaves (noRamTo (fieldC w)) (TwoOperandOn (twoOperandAt (fieldB w)) (sees (fieldC w) (pairR (fieldA w))) (sees (fieldC w) (pairS (fieldA w))))
+      ≡ leaves (at noRamTo (fieldC w)) (TwoOperandOn (at twoOperands (fieldB w)) (sees (fieldC w) (at pairR (fieldA w))) (sees (fieldC w) (at pairS (fieldA w))))
   unfolding workOf outcomeFor viewOf
   tonr-cycle h = by-family Tonr h
 
   -- the one-operand families: MOVE, COMP, INC, NEG
   pub sor-cycle : InFamily Sor w
-      → cycleOf m c .machine ≡ leaves (sorTo (fieldB w)) (OneOperandOn (oneOperandAt (fieldA w)) (sees (fieldC w) (sourceAt (fieldB w))))
+      → cycleOf m c .machine ≡ leaves (at sorTo (fieldB w)) (OneOperandOn (at oneOperands (fieldA w)) (sees (fieldC w) (at sources (fieldB w))))
   unfolding workOf outcomeFor viewOf
   sor-cycle h = by-family Sor h
 
   pub sonr-cycle : InFamily Sonr w
-      → cycleOf m c .machine ≡ leaves (noRamTo (fieldC w)) (OneOperandOn (oneOperandAt (fieldA w)) (sees (fieldC w) (sourceAt (fieldB w))))
+      → cycleOf m c .machine ≡ leaves (at noRamTo (fieldC w)) (OneOperandOn (at oneOperands (fieldA w)) (sees (fieldC w) (at sources (fieldB w))))
   unfolding workOf outcomeFor viewOf
   sonr-cycle h = by-family Sonr h
 
