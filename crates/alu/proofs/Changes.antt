@@ -13,7 +13,8 @@ use Rattle.alu.specs.Flags.{storedC, storedN, storedOVR, storedLINK, sig
 use Rattle.alu.specs.Operations.{plus, xnorSign, carryInto, outcomeOf}
 use Rattle.alu.proofs.Fits.{low-lt}
 use Rattle.alu.proofs.Bits.{bit-lt, bit-low}
-use Rattle.alu.proofs.Shapes.{Kind, keepsLink, clearsCarry, showsSign, kindOf, Shape, summed, bare, unsigned, moved, shape}
+use Rattle.alu.specs.Kinds.{Kind, keepsLink, clearsCarry, showsSign, kindOf}
+use Rattle.alu.proofs.Shapes.{Shape, summed, bare, unsigned, moved, shape}
 
 -- The status byte's own laws.
 

@@ -1,6 +1,6 @@
--- Prioritize by the highest set bit.
+-- Prioritize names the highest set bit: `prioritize-highest`, at the end.
 use mathlib.Core.Path.{_≡_, refl}
-use Prim.Native.Nat.{ℕ, zero, suc, _+_, _-_, _*_, _^_, _≤_, _<_, zero-le, suc-le-suc}
+use Prim.Native.Nat.{ℕ, zero, suc, _+_, _-_, _*_, _^_, _<_, zero-le, suc-le-suc}
 use native.Mathlib.Nat.{pow-suc}
 use native.Mathlib.Omega.{arith}
 use lib.Dec.{eqb·suc-zero}
@@ -11,15 +11,8 @@ use Rattle.alu.specs.declared.Operation.the-variants.{Prioritize}
 use Rattle.alu.specs.Width.{low, complement}
 use Rattle.alu.specs.Flags.{withSign, plain}
 use Rattle.alu.specs.Operations.{priority, prioritize, outcomeOf}
+use Rattle.alu.specs.Highest.{Highest}
 use Rattle.alu.proofs.Fits.{low-lt, complement-lt}
-
--- p is the place of x's highest set bit, the top of the width being 1; no set bit has the place 0
-pub record Highest (w x p : ℕ) : Type 0 where
-  pub none : x ≡ 0 → p ≡ 0
-  pub first : 0 < x → 1 ≤ p
-  pub last : p ≤ w
-  pub reached : 0 < x → 2 ^ (w - p) ≤ x
-  pub unpassed : x < 2 * 2 ^ (w - p)
 
 priority-highest : (w x : ℕ) → x < 2 ^ w → Highest w x (priority w x)
 unfolding priority

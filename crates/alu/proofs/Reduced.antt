@@ -4,21 +4,8 @@ use Prim.Native.Nat.{ℕ, _^_}
 use native.Mathlib.Nat.{mod-mod}
 use Rattle.alu.specs.declared.Operation.{Operation}
 use Rattle.alu.specs.declared.Operation.the-variants.{TwoOperand, OneOperand, Bit, Shift, Rotate, Merge, Compare, Prioritize, CrcForward, CrcReverse}
-use Rattle.alu.specs.Width.{low}
 use Rattle.alu.specs.Operations.{outcomeOf}
-
--- the same operation on the operands' parts at the width
-abbrev pub reduced : ℕ → Operation → Operation
-reduced w (TwoOperand kind r s) = TwoOperand kind (low w r) (low w s)
-reduced w (OneOperand kind source) = OneOperand kind (low w source)
-reduced w (Bit kind n source) = Bit kind n (low w source)
-reduced w (Shift kind source) = Shift kind (low w source)
-reduced w (Rotate n source) = Rotate n (low w source)
-reduced w (Merge n u r mask) = Merge n (low w u) (low w r) (low w mask)
-reduced w (Compare n u r mask) = Compare n (low w u) (low w r) (low w mask)
-reduced w (Prioritize source mask) = Prioritize (low w source) (low w mask)
-reduced w (CrcForward register acc) = CrcForward (low w register) (low w acc)
-reduced w (CrcReverse register acc) = CrcReverse (low w register) (low w acc)
+use Rattle.alu.specs.Columns.{reduced}
 
 -- reducing every operand changes nothing
 pub low-parts-decide : (w : ℕ) (operation : Operation) (status : ℕ) → outcomeOf w (reduced w operation) status ≡ outcomeOf w operation status

@@ -1,6 +1,5 @@
 -- Four shapes are all that an outcome can have, and an operation's kind tells which: the one walk over all operations from which
 -- bounds and what changes in the status follow.
-use mathlib.Core.Bool.{Bool, true, false}
 use Prim.Native.Nat.{ℕ, zero, suc, _+_, _-_, _*_, _/_, _%_, _^_, _≤_, _<_, zero-le, suc-le-suc}
 use native.Mathlib.Nat.{mod-lt, le-refl, pow-suc}
 use native.Mathlib.Omega.{arith}
@@ -22,74 +21,8 @@ use Rattle.alu.specs.declared.Operation.the-variants.{TwoOperand, OneOpe
 use Rattle.alu.specs.Width.{bit, low, complement}
 use Rattle.alu.specs.Flags.{storedC, storedN, storedOVR, storedLINK, withSign, plain, linked}
 use Rattle.alu.specs.Operations.{plus, minus, xnorSign, twoOperand, oneOperand, power, bitOperation, gated, movedUp, movedDown, shiftUp, shiftDown, shift, rotated, rotate, merge, compare, priority, prioritize, crcStep, crcForward, crcReverse, outcomeOf}
+use Rattle.alu.specs.Kinds.{Kind, twoOperandKind, oneOperandKind, bitKind, kindOf, Sum, Plain, Unsigned, Moved}
 use Rattle.alu.proofs.Fits.{low-lt, complement-lt}
-
--- a sum has a carry; a plain result none; XNOR's result is plain but for its sign; a moved one has a bit for LINK
-pub data Kind : Type 0 where
-  Sum : Kind
-  Plain : Kind
-  Unsigned : Kind
-  Moved : Kind
-
-abbrev pub twoOperandKind : TwoOperandKind → Kind
-twoOperandKind SMinusR = Sum
-twoOperandKind SMinusRWithCarry = Sum
-twoOperandKind RMinusS = Sum
-twoOperandKind RMinusSWithCarry = Sum
-twoOperandKind RPlusS = Sum
-twoOperandKind RPlusSWithCarry = Sum
-twoOperandKind And = Plain
-twoOperandKind Nand = Plain
-twoOperandKind Xor = Plain
-twoOperandKind Nor = Plain
-twoOperandKind Or = Plain
-twoOperandKind Xnor = Unsigned
-
-abbrev pub oneOperandKind : OneOperandKind → Kind
-oneOperandKind Move = Plain
-oneOperandKind Complement = Plain
-oneOperandKind Increment = Sum
-oneOperandKind Negate = Sum
-
-abbrev pub bitKind : BitKind → Kind
-bitKind SetBit = Plain
-bitKind ResetBit = Plain
-bitKind TestBit = Plain
-bitKind LoadBit = Plain
-bitKind LoadBitComplement = Plain
-bitKind AddBit = Sum
-bitKind SubtractBit = Sum
-
-abbrev pub kindOf : Operation → Kind
-kindOf (TwoOperand kind r s) = twoOperandKind kind
-kindOf (OneOperand kind source) = oneOperandKind kind
-kindOf (Bit kind n source) = bitKind kind
-kindOf (Shift kind source) = Moved
-kindOf (Rotate n source) = Plain
-kindOf (Merge n u r mask) = Plain
-kindOf (Compare n u r mask) = Plain
-kindOf (Prioritize source mask) = Plain
-kindOf (CrcForward register acc) = Moved
-kindOf (CrcReverse register acc) = Moved
-
--- what a kind leaves as it was, or at its rule
-abbrev pub keepsLink : Kind → Bool
-keepsLink Sum = true
-keepsLink Plain = true
-keepsLink Unsigned = true
-keepsLink Moved = false
-
-abbrev pub clearsCarry : Kind → Bool
-clearsCarry Sum = false
-clearsCarry Plain = true
-clearsCarry Unsigned = true
-clearsCarry Moved = true
-
-abbrev pub showsSign : Kind → Bool
-showsSign Sum = true
-showsSign Plain = true
-showsSign Unsigned = false
-showsSign Moved = true
 
 pub data Shape (w status : ℕ) : Kind → Outcome → Type 0 where
   summed : (a b k : ℕ) → Shape w status Sum (plus w a b k status)

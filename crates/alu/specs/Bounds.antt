@@ -1,5 +1,5 @@
--- What the code's own answers about a width have to be, for the contracts of its parts: the number that the definitions name, and bounds by
--- which sums fit.
+-- For the contracts of private parts alone: what the code's own answers about a width have to be, the number that the definitions name, and bounds
+-- by which sums fit. Nobody needs this file to know what an operation does.
 use mathlib.Core.Path.{_≡_}
 use Prim.Native.Nat.{ℕ, _-_, _^_, _≤_}
 use Rattle.alu.specs.declared.Mode.{Mode}

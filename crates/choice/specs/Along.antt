@@ -1,4 +1,4 @@
--- A function's answer said value by value, for the contracts of decisions over a small field.
+-- For the contracts of private parts alone, decisions over a small field: a function's answer said value by value.
 use Prim.{Unit}
 use mathlib.Core.Path.{_≡_}
 use mathlib.Core.Bool.{Bool, true, false}

@@ -13,7 +13,6 @@ use Rattle.isa.specs.declared.Named.{Named}
 use Rattle.isa.specs.Words.{decodeOf}
 use Rattle.machine.specs.declared.Waiting.the-variants.{Nothing}
 use Rattle.machine.specs.declared.Machine.{Machine}
-use Rattle.machine.specs.declared.Words.{Words}
 use Rattle.machine.specs.Cycles.{Turned, cycleOf}
 
 -- the register that every row names is R1

@@ -1,5 +1,5 @@
--- The table of names as the code has it: the lists one after another (yOrAcc is the beginning of destinations), and then the numbers 0 to 31. For
--- the contracts of the parts.
+-- For the contracts of private parts alone: the table of names as the code has it, the lists one after another (yOrAcc is the beginning of
+-- destinations), and then the numbers 0 to 31.
 use Prim.Native.Nat.{ℕ, _+_, _*_, _/_, _%_}
 use mathlib.Core.Bool.{Bool, true, false}
 use mathlib.Core.List.{List, [], _∷_, _++_}

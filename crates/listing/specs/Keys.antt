@@ -1,5 +1,5 @@
--- A text of at most eight bytes as one number, its key: the first byte lowest. Names are compared and put by their keys. For the contracts of the
--- parts.
+-- For the contracts of private parts alone: a text of at most eight bytes as one number, its key, the first byte lowest. Names are compared and put by
+-- their keys.
 use mathlib.Core.Path.{_≡_}
 use Prim.Native.Nat.{ℕ, zero, suc, _+_, _*_, _/_, _%_}
 use mathlib.Core.Bool.{true, false}

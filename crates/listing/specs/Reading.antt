@@ -1,4 +1,4 @@
--- The parts of the reader: the next item of a line from an index on, what is read of it, and what is read next. For the contracts of the parts.
+-- For the contracts of private parts alone, those of the reader: the next item of a line from an index on, what is read of it, and what is read next.
 use mathlib.Core.Path.{_≡_}
 use mathlib.Core.Bool.{Bool, true, false}
 use mathlib.Core.List.{List, [], _∷_}

@@ -3,7 +3,7 @@
 use mathlib.Core.Path.{_≡_, refl, _∙_, sym, ap}
 use mathlib.Core.Bool.{Bool, true, false}
 use mathlib.Core.List.{List, map}
-use Prim.Native.Nat.{ℕ, _+_, _/_, _%_, _^_}
+use Prim.Native.Nat.{ℕ, _+_, _%_, _^_}
 use native.Mathlib.Nat.{zero-div}
 use lib.Dec.{eqb}
 use lib.ListN.{getD}
@@ -21,12 +21,10 @@ use Rattle.plan.specs.declared.Destination.{Destination}
 use Rattle.plan.specs.declared.Destination.the-variants.{ToY, ToAcc, ToRam, ToStatus, ToAccAndStatus}
 use Rattle.plan.specs.declared.Task.the-variants.{NoOperation, TestStatus}
 use Rattle.plan.specs.declared.Chooser.{Chooser}
-use Rattle.plan.specs.declared.Chooser.the-variants.{Pins, Instruction}
 use Rattle.plan.specs.declared.Plan.{Plan}
 use Rattle.plan.specs.Plans.{idle, workOf, planOf}
 use Rattle.isa.specs.declared.Family.{Family}
 use Rattle.isa.specs.declared.Family.the-variants.{Test, Noop}
-use Rattle.isa.specs.declared.Named.{Named}
 use Rattle.isa.specs.Fields.{markOf, fieldA, fieldB, fieldC, modeOf}
 use Rattle.isa.specs.Table.{rowAt, numberOf}
 use Rattle.isa.specs.Words.{InFamily, wordChecks, namedBy, decodeOf, asksI, namesI, takesImmediate}

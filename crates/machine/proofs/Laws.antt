@@ -1,7 +1,7 @@
 -- What holds of every cycle: a refused one changes nothing (`refused-unchanged`), one that only waits keeps its word (`wait-changes`), an
 -- accepted one completes or waits (`completes-or-waits`, `waiting-completes`) and leaves a machine that may start (`accepted-may-start`), and
 -- what IEN and SRE keep (`ien-high-keeps`, `status-kept`); and that no two outcomes satisfy a call's statement.
-use mathlib.Core.Path.{_≡_, refl, _∙_, sym, ap, subst, subst⁻¹}
+use mathlib.Core.Path.{_≡_, refl, _∙_, sym, ap}
 use mathlib.Core.Bool.{Bool, true, false}
 use mathlib.Core.Option.{some, Option·some-injective, Option·some-ne-none}
 use Prim.Native.Nat.{ℕ, _+_, _%_}
@@ -9,15 +9,12 @@ use native.Mathlib.Omega.{arith}
 use borrow.Author.Tests.{eqb-true, ne-eqb}
 use Rattle.choice.specs.Tells.{Tells, accepted, refused}
 use Rattle.choice.proofs.Picks.{picked, unpicked}
-use Rattle.choice.proofs.Spans.{never}
 use Rattle.choice.proofs.Tells.{accepted-one, refused-one, accepted-refused}
-use Rattle.isa.specs.Words.{namedBy, takesImmediate}
+use Rattle.isa.specs.Words.{namedBy}
 use Rattle.machine.specs.declared.Waiting.{Waiting}
 use Rattle.machine.specs.declared.Waiting.the-variants.{Nothing, Held}
-use Rattle.machine.specs.declared.Registers.{Registers}
 use Rattle.machine.specs.declared.Machine.{Machine}
 use Rattle.machine.specs.declared.Words.{Words}
-use Rattle.machine.specs.declared.Completed.{Completed}
 use Rattle.machine.specs.declared.Completed.the-variants.{NoInstruction, Instruction}
 use Rattle.machine.specs.declared.Report.{Report}
 use Rattle.machine.specs.declared.Answer.{Answer}

@@ -1,5 +1,5 @@
--- The judgement as the code goes about it: flat, and by numbers and tests. What a cycle is judged to be is said in Judging; these only serve
--- the judge and its parts.
+-- For the contracts of private parts alone, the judge and its parts: the judgement as the code goes about it, flat, and by numbers and tests. What a
+-- cycle is judged to be is said in Judging.
 use Prim.Native.Nat.{ℕ}
 use mathlib.Core.Bool.{Bool, false, not}
 use mathlib.Core.List.{[], _∷_}

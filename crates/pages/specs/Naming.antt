@@ -1,4 +1,4 @@
--- Parts of packing a text, for the contracts of the code alone. They are ours.
+-- For the contracts of private parts alone: parts of packing a text. They are ours.
 use mathlib.Core.Path.{_≡_}
 use Prim.Native.Nat.{ℕ, _+_, _*_, _≤_}
 use mathlib.Core.List.{List, _++_}

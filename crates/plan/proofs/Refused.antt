@@ -1,7 +1,7 @@
 -- What 8 and 9 mean by the plan: of a named instruction of the list, `eight-planned` and `nine-planned`; of a word that a family takes,
 -- `word-eight-planned` and `word-nine-planned`. So the rules of isa's table are those that document 01 tells.
 use mathlib.Core.Path.{_≡_, refl, _∙_, sym, ap}
-use mathlib.Core.Bool.{Bool, true, false}
+use mathlib.Core.Bool.{true, false}
 use mathlib.Core.Logic.{_↔_}
 use Prim.Native.Nat.{ℕ, _<_}
 use native.Mathlib.Omega.{arith}

@@ -2,9 +2,8 @@
 -- (`returned`), both of any answer; every machine on the way of a started run may start (`may-go-on`), so that none of its cycles is refused with
 -- 4 (demands, Refusals); and no two outcomes satisfy the statement (`run-unique`).
 use mathlib.Core.Path.{_≡_, refl, sym, ap, _∙_, subst, subst⁻¹}
-use mathlib.Core.Bool.{Bool, true, false}
+use mathlib.Core.Bool.{true, false}
 use mathlib.Core.List.{List, _++_}
-use mathlib.Core.Option.{Option, none, some}
 use Prim.Native.Nat.{ℕ, zero, suc, _*_, _≤_, _<_}
 use native.Mathlib.Omega.{arith}
 use lib.Dec.{T}
@@ -14,18 +13,17 @@ use borrow.Author.Tests.{ne-eqb}
 use Rattle.choice.specs.Tells.{Tells, accepted, refused, Placed}
 use Rattle.choice.proofs.Tells.{whole-one, refused-at-one, whole-refused}
 use Rattle.machine.specs.declared.Machine.{Machine}
-use Rattle.machine.specs.declared.Report.{Report}
 use Rattle.machine.specs.Judging.{mayStart}
 use Rattle.machine.proofs.Laws.{accepted-may-start}
 use Rattle.run.specs.declared.Ending.{Ending}
 use Rattle.run.specs.declared.Ending.the-variants.{Done, Stopped, Refused}
 use Rattle.run.specs.declared.Ran.{Ran}
-use Rattle.run.specs.Splitting.{cycleAt, cyclesIn, cyclesOf, cyclesFrom, wordsPerReport}
+use Rattle.run.specs.Splitting.{cycleAt, cyclesIn, cyclesFrom, wordsPerReport}
 use Rattle.run.specs.Courses.{Finish, done, stopped, Course, closing, runFrom, reportsOf}
 use Rattle.run.specs.Runs.{startRefusal, runOf, Summary, placed, summaryOf, endingTells, ranTells, Gives}
 use Rattle.run.specs.Following.{machineAt, turnAt, completedBefore, Ends, CycleByCycle, Returned}
 use Rattle.run.proofs.Courses.{reports-length}
-use Rattle.run.proofs.Starting.{started, refused-whole, may-begin}
+use Rattle.run.proofs.Starting.{started, refused-whole}
 use Rattle.run.proofs.Turns.{Closes, accepted-turns, report-turns, machine-turns, completed-turns, closes}
 
 done-stopped : done ≡ stopped → ⊥

@@ -1,4 +1,5 @@
--- The check on the register alone (document 02, §6): of the machine in specs/Check only the register and the incoming bit are carried.
+-- For the contract of a private part and a law: the check on the register alone (document 02, §6); of the machine in specs/Check only the register and
+-- the incoming bit are carried.
 -- `foldBits` is for the contract of a pass over a byte, `foldBytes` for `check-fold` (proofs/Folded), which says that it is the same check.
 use Prim.Native.Nat.{ℕ, zero, suc, _*_, _%_}
 use mathlib.Core.List.{List, [], _∷_}
