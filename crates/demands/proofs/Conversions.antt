@@ -9,8 +9,8 @@ use Rattle.isa.specs.declared.Encoded.{Encoded}
 use Rattle.isa.proofs.Laws.{encode-decode, decode-encode, decode-unique, encode-unique}
 use Rattle.demands.specs.Calls.{Filling, Decodes, Encodes, ReadsTrace, WritesTrace}
 use Rattle.trace.specs.declared.Filled.{Filled}
-use Rattle.trace.proofs.Words.{Bytes}
 use Rattle.trace.proofs.Trips.{written-read, read-written}
+use Rattle.trace.specs.Layout.{Bytes}
 
 -- a 16-bit word that is decoded encodes to itself, and an instruction that is encoded decodes to itself
 pub word-there-and-back : (w : ℕ) → w < 65536 → (n : Named) → Decodes w (Decoded.Accepted n) → (r : Encoded) → Encodes n r → r ≡ Encoded.Accepted w

@@ -46,7 +46,8 @@ use Rattle.trace.specs.Layout.{wordsPerRecord}
 use Rattle.trace.specs.Answers.{filledTells, leaves, Fills}
 use Rattle.trace.specs.Writing.{writeChecks}
 use Rattle.trace.proofs.Unique.{filled-one}
-use Rattle.trace.proofs.Exactly.{Refuses, read-refuses, write-refuses}
+use Rattle.trace.specs.Refusing.{Refuses}
+use Rattle.trace.proofs.Exactly.{read-refuses, write-refuses}
 
 -- reader and writer: an answer is a refusal exactly when the definition's is, and lent output is then as it was
 module _ (answer : Placed ℕ) (made before : List ℕ) (r : Filled) (after : List ℕ) (f : Fills answer made r before after) (k i : ℕ) where

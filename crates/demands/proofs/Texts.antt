@@ -13,14 +13,14 @@ use Rattle.text.specs.Lines.{wordsPerLine}
 use Rattle.text.specs.Taking.{startOf, Took, takeFrom}
 use Rattle.trace.specs.declared.Filled.{Filled}
 use Rattle.trace.specs.Answers.{filledTells}
-use Rattle.trace.specs.Layout.{blockBytes, recordsAt, part, wordsOf}
+use Rattle.trace.specs.Layout.{blockBytes, recordsAt, part, wordsOf, Bytes}
 use Rattle.trace.specs.Blocks.{countOf, recordsEnd, recordWords}
 use Rattle.trace.specs.Reading.{blocksOf, allRecordWords, readOf, readWords}
-use Rattle.trace.proofs.Words.{Bytes, bytes-take, bytes-drop}
+use Rattle.trace.proofs.Words.{bytes-take, bytes-drop}
 use Rattle.trace.proofs.Answered.{read-says}
 use Rattle.trace.proofs.Trips.{left-by, made-read}
-use Rattle.lines.specs.Words.{textOf, AllWords}
-use Rattle.lines.proofs.ReadBack.{allRead, text-read}
+use Rattle.lines.specs.Words.{textOf, AllWords, allRead}
+use Rattle.lines.proofs.ReadBack.{text-read}
 use Rattle.demands.specs.Calls.{Filling, TakesText, ReadsTrace, WritesTrace}
 use Rattle.demands.proofs.Conversions.{trace-there-and-back}
 

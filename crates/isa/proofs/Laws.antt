@@ -3,7 +3,7 @@
 use mathlib.Core.Path.{_≡_, refl, _∙_, sym, ap, subst}
 use mathlib.Core.Bool.{Bool, true, false, not}
 use mathlib.Core.List.{List, [], _∷_}
-use mathlib.Core.Logic.{_↔_, _⊎_, inl, inr}
+use mathlib.Core.Logic.{_↔_, inl, inr}
 use Prim.Native.Nat.{ℕ, _<_, _≤_}
 use native.Mathlib.Omega.{arith}
 use native.Mathlib.Nat.{div-div-eq-div-mul}
@@ -13,7 +13,7 @@ use Rattle.alu.specs.declared.Mode.{Mode}
 use Rattle.alu.specs.declared.Mode.the-variants.{Byte, Word}
 use Rattle.choice.specs.Pick.{pick}
 use Rattle.choice.specs.Checks.{Check, check, refusal, clear}
-use Rattle.choice.specs.Tells.{Tells, accepted, refused, tells}
+use Rattle.choice.specs.Tells.{accepted, tells}
 use Rattle.choice.proofs.Spans.{never}
 use Rattle.choice.proofs.Checks.{positive, exactly, cleared, passed}
 use Rattle.choice.proofs.Tells.{accepted-one, refused-one, accepted-refused, told-accepted, told-number}
@@ -26,7 +26,7 @@ use Rattle.isa.specs.declared.Encoded.{Encoded}
 use Rattle.isa.specs.Fields.{markOf, quadrantOf, fieldA, fieldB, fieldC, wordOf, modeOf, markFor}
 use Rattle.isa.specs.Table.{rowAt, noRow, numberOf}
 use Rattle.isa.specs.Slots.{takes, rowOf}
-use Rattle.isa.specs.Words.{InFamily, accTwice, bitTooHigh, ruleChecks, wordNumber, wordRow, wordChecks, namedBy, decodeOf, lookupOf, decodedTells, namedRow, namedChecks, wordFor, encodeOf, encodedTells, takesImmediate}
+use Rattle.isa.specs.Words.{InFamily, accTwice, bitTooHigh, ruleChecks, wordNumber, wordRow, wordChecks, namedBy, decodeOf, lookupOf, decodedTells, namedRow, namedChecks, wordFor, encodeOf, encodedTells, takesImmediate, Answered}
 use Rattle.isa.specs.Decision.{fillOf}
 use Rattle.isa.proofs.Families.{own-row, own-number, narrow, mark-small}
 use Rattle.isa.proofs.Takes.{small}
@@ -151,10 +151,6 @@ module _ (n : Named) (w : ℕ) (e : encodeOf n ≡ accepted w) where
       ∙ answer-accepted i mark (n .a) (n .b) (n .c) (named-own .listed) (named-free .1)
       ∙ ap (λ (d : Mode). accepted (record { family = namedRow n .family; mode = d; a = n .a; b = n .b; c = n .c })) (mode-back (n .mode))
       ∙ ap (λ (f : Family). accepted (record { family = f; mode = n .mode; a = n .a; b = n .b; c = n .c })) (own-row (n .family) .1)
-
--- an answer is a value, or a refusal with 7, 8 or 9
-abbrev pub Answered : {A : Type 0} → Tells A → A → Type 0
-Answered t x = (t ≡ accepted x) ⊎ ((t ≡ refused 7) ⊎ ((t ≡ refused 8) ⊎ (t ≡ refused 9)))
 
 answered : {A : Type 0} (seven eight nine : Bool) (x : A) → Answered (tells (refusal (check 7 seven ∷ check 8 eight ∷ check 9 nine ∷ [])) x) x
 answered true eight nine x = inr (inl refl)

@@ -18,6 +18,7 @@ use Rattle.isa.specs.Fields.{markOf, quadrantOf, fieldA, fieldB, fieldC,
 use Rattle.isa.specs.Sets.{has}
 use Rattle.isa.specs.Table.{rowAt, noRow, numberOf, oneAcc, bitInMode}
 use Rattle.isa.specs.Slots.{takes, rowOf}
+use mathlib.Core.Logic.{_⊎_}
 
 -- a family takes a word (document 01, the instruction list): the word has the quadrant of the family's row, and a mode and fields that the row
 -- takes. What 7, 8 and 9 mean for a word is said with it
@@ -104,3 +105,7 @@ namesI (some n) = asksI (namedRow n) (n .a) (n .b)
 -- a word is accepted, and its instruction has an I operand
 unfoldable pub takesImmediate : ℕ → Bool
 takesImmediate w = namesI (decodeOf w .value)
+
+-- an answer is a value, or a refusal with 7, 8 or 9
+abbrev pub Answered : {A : Type 0} → Tells A → A → Type 0
+Answered t x = (t ≡ accepted x) ⊎ ((t ≡ refused 7) ⊎ ((t ≡ refused 8) ⊎ (t ≡ refused 9)))

@@ -1,9 +1,9 @@
 -- The text of cycle words is read as those words.
-use mathlib.Core.Path.{_≡_, refl, sym, ap, _∙_}
+use mathlib.Core.Path.{_≡_, sym, ap, _∙_}
 use mathlib.Core.List.{List, [], _∷_, _++_, append-assoc}
-use Prim.Native.Nat.{ℕ, zero, suc, _+_, _-_, _*_, _/_, _%_, _≤_, _<_}
+use Prim.Native.Nat.{ℕ, zero, suc, _+_, _-_, _*_, _/_, _≤_, _<_}
 use native.Mathlib.Omega.{arith}
-use lib.Dec.{T, eqb, ltb}
+use lib.Dec.{eqb, ltb}
 use lib.ListN.{length, set, take, drop, length-set, length-drop, take-append-drop, drop-of-length-le}
 use lib.Seq.{sets, sets-eq, length-take-le, length-sets, drop-drop}
 use borrow.Author.Tests.{eqb-true, lt-ltb}
@@ -14,9 +14,9 @@ use Rattle.text.specs.declared.Place.the-variants.{Between, After}
 use Rattle.text.specs.declared.Stop.the-variants.{TextEnd}
 use Rattle.text.specs.Bytes.{digitValue}
 use Rattle.text.specs.Lines.{wordsPerLine}
-use Rattle.text.specs.Taking.{startOf, oneMore, Took, stopsAt, takeFrom}
-use Rattle.text.proofs.Reading.{reader, word-read, blank-read, feed-read}
-use Rattle.lines.specs.Words.{wordsText, wordsLine, textFrom, textOf, AllWords}
+use Rattle.text.specs.Taking.{startOf, oneMore, stopsAt, takeFrom, reader}
+use Rattle.text.proofs.Reading.{word-read, blank-read, feed-read}
+use Rattle.lines.specs.Words.{wordsText, wordsLine, textFrom, textOf, AllWords, allRead, linesAfter}
 
 -- a digit is read as what it stands for
 digit-read : (d : ℕ) → d < 16 → digitValue (digit d) ≡ d
@@ -70,11 +70,6 @@ sets-both [] b l i k e =
     rw same
 sets-both (x ∷ a) b l i k e = sets-both a b (set l i x) (suc i) k (omega arith)
 
--- the number of the line after n more
-abbrev pub linesAfter : ℕ → ℕ → ℕ
-linesAfter zero l = l
-linesAfter (suc n) l = linesAfter n (oneMore l)
-
 line-here : (all : List ℕ) (i : ℕ) → i < length all / wordsPerLine → wordsLine all i ≡ wordsText (take wordsPerLine (drop (wordsPerLine * i) all))
 unfolding wordsLine
 line-here all i h = picked (ltb i (length all / wordsPerLine)) (wordsText (take wordsPerLine (drop (wordsPerLine * i) all))) [] (lt-ltb i (length all / wordsPerLine) h)
@@ -110,11 +105,6 @@ lines-read (suc n) i all a j l f words e h =
     ∙ ap (λ (k : ℕ). takeFrom (j + 5 * length line) (reader (oneMore l) 1 0 Between k f) (textFrom all (suc i) n) (sets words (wordsPerLine * i) line)) found
     ∙ lines-read n (suc i) all a (j + 5 * length line) (oneMore l) f (sets words (wordsPerLine * i) line) (omega arith) room
     ∙ rw (index, both)
-
--- what comes of all of it, from the start of a text: every word found, in its place, and no fault
-abbrev pub allRead : List ℕ → List ℕ → Took
-allRead all words =
-    stopsAt (reader (linesAfter (length all / wordsPerLine) 1) 1 0 Between (length all) 0) (5 * wordsPerLine * (length all / wordsPerLine)) TextEnd (all ++ drop (length all) words)
 
 pub text-read : (all words : List ℕ) → AllWords all → wordsPerLine * (length all / wordsPerLine) ≡ length all → length all ≤ length words
     → takeFrom 0 startOf (textOf all) words ≡ allRead all words

@@ -1,7 +1,7 @@
 -- A trace as text: one line of hex words per cycle, and what is said of a line that cannot be read. Document 01 says nothing of traces as
 -- text: the form is ours (docs/DECISIONS.md).
 use Prim.{Unit}
-use Prim.Native.Nat.{ℕ, zero, suc, _*_, _/_, _<_}
+use Prim.Native.Nat.{ℕ, zero, suc, _*_, _/_, _<_, _+_}
 use mathlib.Core.List.{List, [], _∷_, _++_}
 use lib.Dec.{ltb}
 use lib.ListN.{length, take, drop}
@@ -11,6 +11,9 @@ use Rattle.text.specs.declared.Expected.{Expected}
 use Rattle.text.specs.declared.Expected.the-variants.{Digit, Blank, Word, LineEnd}
 use Rattle.text.specs.declared.Fault.{Fault}
 use Rattle.text.specs.Lines.{wordsPerLine}
+use Rattle.text.specs.declared.Place.the-variants.{Between}
+use Rattle.text.specs.declared.Stop.the-variants.{TextEnd}
+use Rattle.text.specs.Taking.{Took, stopsAt, reader, oneMore}
 
 -- what stands after a word, with these words still to come
 abbrev pub afterWord : List ℕ → ℕ
@@ -56,3 +59,13 @@ faultLine f =
     ++ ((decimal (f .column) ++ 58 ∷ [])
     ++ ((32 ∷ 101 ∷ 120 ∷ 112 ∷ 101 ∷ 99 ∷ 116 ∷ 101 ∷ 100 ∷ 32 ∷ [])
     ++ expectedText (f .expected)))))
+
+-- the number of the line after n more
+abbrev pub linesAfter : ℕ → ℕ → ℕ
+linesAfter zero l = l
+linesAfter (suc n) l = linesAfter n (oneMore l)
+
+-- what comes of all of it, from the start of a text: every word found, in its place, and no fault
+abbrev pub allRead : List ℕ → List ℕ → Took
+allRead all words =
+    stopsAt (reader (linesAfter (length all / wordsPerLine) 1) 1 0 Between (length all) 0) (5 * wordsPerLine * (length all / wordsPerLine)) TextEnd (all ++ drop (length all) words)

@@ -16,14 +16,14 @@ use Rattle.isa.specs.declared.Row.{Row}
 use Rattle.isa.specs.Fields.{modeOf, markFor}
 use Rattle.isa.specs.Sets.{has}
 use Rattle.isa.specs.Table.{rowAt, noRow, numberOf}
-use Rattle.isa.specs.Words.{decodeOf, encodeOf, namedBy}
+use Rattle.isa.specs.Words.{decodeOf, encodeOf, namedBy, Answered}
 use Rattle.isa.proofs.Families.{own-row, own-number, narrow, mark-small}
 use Rattle.isa.proofs.Takes.{taken, small}
-use Rattle.isa.proofs.Laws.{mode-back, mark-back, encode-decode, decode-encode, encode-takes, Answered, word-answered}
+use Rattle.isa.proofs.Laws.{mode-back, mark-back, encode-decode, decode-encode, encode-takes, word-answered}
 use Rattle.listing.specs.Places.{atFamily, atMode, formOf}
 use Rattle.listing.specs.Items.{joined, Item, itemsOf, normal}
-use Rattle.listing.specs.Lines.{textOf, fieldTexts, textsBy, textsOf, lineBy, lineOf, expect, field, ended, encoded, instruction, fieldsOf, wordFrom, wordOf, pastOf}
-use Rattle.listing.proofs.Tables.{mostValues, good, family-good, mode-good, good-a, good-b, good-c, Writes, writes-a, writes-b, writes-c, text-sound, family-text, family-small, mode-text, mode-small}
+use Rattle.listing.specs.Lines.{textOf, fieldTexts, textsBy, textsOf, lineBy, lineOf, expect, field, ended, encoded, instruction, fieldsOf, wordFrom, wordOf, pastOf, Writes}
+use Rattle.listing.proofs.Tables.{mostValues, good, family-good, mode-good, good-a, good-b, good-c, writes-a, writes-b, writes-c, text-sound, family-text, family-small, mode-text, mode-small}
 use Rattle.listing.proofs.Splits.{texts, all-sound, all-full, joined-items, items-full, normal-items}
 use Rattle.listing.proofs.Steps.{expect-step, field-step, expect-met, field-met, ended-met, ended-step, sound-too, field-sound}
 

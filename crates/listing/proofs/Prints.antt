@@ -24,15 +24,14 @@ use Rattle.choice.specs.Along.{Along}
 use Rattle.choice.specs.Text.{blank}
 use Rattle.listing.specs.declared.Keys.{Keys}
 use Rattle.listing.specs.Places.{Place, Form, atFamily, atMode, formOf}
-use Rattle.listing.specs.Items.{afterBlanks, joined}
-use Rattle.listing.specs.Lines.{textOf, fieldTexts, textsBy, textsOf, lineBy, lineOf}
+use Rattle.listing.specs.Items.{afterBlanks, joined, full}
+use Rattle.listing.specs.Lines.{textOf, fieldTexts, textsBy, textsOf, lineBy, lineOf, Writes, shown, left}
 use Rattle.listing.specs.Answers.{outcome, fill, fillBy, printInto}
 use Rattle.listing.specs.Keys.{textOfKey, keyIn, keysOf, afterBlank, keysLine}
 use Rattle.listing.specs.Entries.{spanned, placed, samePlace}
 use Rattle.listing.proofs.Finds.{along-place}
 use Rattle.listing.proofs.Bytes.{text-of, no-bytes, no-key, some-key}
-use Rattle.listing.proofs.Splits.{full}
-use Rattle.listing.proofs.Tables.{mostValues, good, family-good, mode-good, good-a, good-b, good-c, Writes, shown, left, writes-a, writes-b, writes-c, family-text, mode-text, key-text, unwritten-text}
+use Rattle.listing.proofs.Tables.{mostValues, good, family-good, mode-good, good-a, good-b, good-c, writes-a, writes-b, writes-c, family-text, mode-text, key-text, unwritten-text}
 use Rattle.listing.proofs.Laws.{half}
 
 pub after-append : (xs ys : List (List ℕ)) → afterBlanks (xs ++ ys) ≡ afterBlanks xs ++ afterBlanks ys

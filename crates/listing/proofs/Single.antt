@@ -18,12 +18,12 @@ use Rattle.isa.specs.declared.Family.{Family}
 use Rattle.isa.specs.declared.Named.{Named}
 use Rattle.isa.specs.Fields.{markFor, markOf, quadrantOf, fieldA, fieldB, fieldC}
 use Rattle.isa.specs.Table.{rowAt, noRow, numberOf}
-use Rattle.isa.specs.Words.{decodeOf, encodeOf, namedBy, wordNumber, wordRow, wordChecks, ruleChecks}
+use Rattle.isa.specs.Words.{decodeOf, encodeOf, namedBy, wordNumber, wordRow, wordChecks, ruleChecks, Answered}
 use Rattle.isa.proofs.Families.{own-row, narrow, mark-small}
 use Rattle.isa.proofs.Takes.{taken, small}
 use Rattle.isa.proofs.Values.{within}
 use Rattle.isa.proofs.Found.{row-belongs}
-use Rattle.isa.proofs.Laws.{encode-decode, encode-takes, Answered, word-answered}
+use Rattle.isa.proofs.Laws.{encode-decode, encode-takes, word-answered}
 use Rattle.listing.specs.declared.Printed.{Printed}
 use Rattle.listing.specs.declared.Read.{Read}
 use Rattle.listing.specs.Places.{Place, written, atFamily, atMode, formOf}

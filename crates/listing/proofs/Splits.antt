@@ -7,7 +7,7 @@ use lib.Dec.{T}
 use Rattle.choice.specs.Pick.{pick}
 use Rattle.choice.proofs.Spans.{both}
 use Rattle.choice.specs.Text.{blank}
-use Rattle.listing.specs.Items.{isBlank, afterBlanks, joined, upToBlank, Item, item, itemsFrom, itemsOf, oneBlank, squeezed, trimmed, normal}
+use Rattle.listing.specs.Items.{isBlank, afterBlanks, joined, upToBlank, Item, item, itemsFrom, itemsOf, oneBlank, squeezed, trimmed, normal, full}
 
 -- no byte is a blank
 abbrev pub clean : List ℕ → Bool
@@ -18,10 +18,6 @@ clean (b ∷ bs) = elim (isBlank b) [ true ↦ false | false ↦ clean bs ]
 abbrev pub sound : List ℕ → Bool
 sound [] = false
 sound (b ∷ bs) = clean (b ∷ bs)
-
-abbrev pub full : List ℕ → Bool
-full [] = false
-full (b ∷ bs) = true
 
 abbrev pub texts : List Item → List (List ℕ)
 texts xs = map (λ (x : Item). x .text) xs

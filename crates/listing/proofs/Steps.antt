@@ -13,10 +13,10 @@ use Rattle.choice.proofs.Spans.{both, holds}
 use Rattle.choice.proofs.Tells.{whole-refused}
 use Rattle.isa.specs.Sets.{has}
 use Rattle.listing.specs.Places.{Place, written, valueIn}
-use Rattle.listing.specs.Items.{Item}
-use Rattle.listing.specs.Lines.{textOf, fieldTexts, valueThen, expect, onlyOf, field, ended}
-use Rattle.listing.proofs.Splits.{sound, full, texts, all-sound, all-full}
-use Rattle.listing.proofs.Tables.{mostValues, good, value-text, text-value, text-sound, Writes, shown, left}
+use Rattle.listing.specs.Items.{Item, full}
+use Rattle.listing.specs.Lines.{textOf, fieldTexts, valueThen, expect, onlyOf, field, ended, Writes, shown, left}
+use Rattle.listing.proofs.Splits.{sound, texts, all-sound, all-full}
+use Rattle.listing.proofs.Tables.{mostValues, good, value-text, text-value, text-sound}
 
 module _ (past : ℕ) (next : ℕ → List Item → Placed ℕ) where
   -- the step was taken with a value: what is left to be read, and that it is read

@@ -16,10 +16,11 @@ use Rattle.isa.specs.Sets.{has}
 use Rattle.isa.specs.Table.{rowAt, noRow}
 use Rattle.listing.specs.Names.{Name}
 use Rattle.listing.specs.Places.{Place, written, atFamily, atMode, formOf, sameText, textIn, valueIn}
-use Rattle.listing.specs.Lines.{textOf, onlyOf}
+use Rattle.listing.specs.Lines.{textOf, onlyOf, Writes, shown, left}
 use Rattle.listing.specs.Keys.{keyOf, keyBytes, textOfKey, keyIn}
 use Rattle.listing.proofs.Bytes.{proper, key-back, text-of}
-use Rattle.listing.proofs.Splits.{sound, full}
+use Rattle.listing.proofs.Splits.{sound}
+use Rattle.listing.specs.Items.{full}
 
 -- no field has a value that is as high
 abbrev pub mostValues : ℕ
@@ -258,11 +259,6 @@ family-writes i v =
 
 all-write : T (span 0 noRow (λ i. span 0 mostValues (family-writes i)))
 all-write = tt
-
--- a field of a set's value: written, by a text that is found again; or not, and the value is the only one
-pub data Writes (s : ℕ) (p : Place) (v : ℕ) : Type 0 where
-  shown : written p ≡ true → full (textOf p v) ≡ has s v → Writes s p v
-  left : written p ≡ false → has s v ≡ eqb v (onlyOf s) → Writes s p v
 
 writes-at : (s : ℕ) (p : Place) (v : ℕ) → T (writes s p v) → Writes s p v
 writes-at s p v t = by-test (written p) refl (both (same (not (eqb s (2 ^ onlyOf s))) (written p)) _ t .1)

@@ -61,3 +61,7 @@ trimmed (b ∷ bs) = pick (isBlank b) bs (b ∷ bs)
 -- runs of blanks made one, the ends trimmed
 unfoldable pub normal : List ℕ → List ℕ
 normal line = trimmed (squeezed line)
+
+abbrev pub full : List ℕ → Bool
+full [] = false
+full (b ∷ bs) = true

@@ -7,3 +7,4 @@ pub mod Answers
 pub mod Keys
 pub mod Entries
 pub mod Reading
+pub mod Refusing

@@ -13,7 +13,9 @@ use Rattle.isa.specs.Sets.{has}
 use Rattle.isa.specs.Table.{rowAt, numberOf}
 use Rattle.isa.specs.Words.{decodeOf, encodeOf}
 use Rattle.listing.specs.Places.{Place, Form, formOf, written, atFamily, atMode, textIn, valueIn}
-use Rattle.listing.specs.Items.{Item, joined, itemsOf}
+use Rattle.listing.specs.Items.{Item, joined, itemsOf, full}
+use mathlib.Core.Path.{_≡_}
+use lib.Dec.{eqb}
 
 abbrev pub textOf : Place → ℕ → List ℕ
 textOf p v = textIn (p .names) v
@@ -92,3 +94,8 @@ pastOf line = suc (length line)
 -- the word of a line, or the first refusal from the left with its column, and only then 7, 8 or 9 with column 0
 unfoldable pub wordOf : List ℕ → Placed ℕ
 wordOf line = wordFrom (pastOf line) (itemsOf line)
+
+-- a field of a set's value: written, by a text that is found again; or not, and the value is the only one
+pub data Writes (s : ℕ) (p : Place) (v : ℕ) : Type 0 where
+  shown : written p ≡ true → full (textOf p v) ≡ has s v → Writes s p v
+  left : written p ≡ false → has s v ≡ eqb v (onlyOf s) → Writes s p v

@@ -6,7 +6,7 @@ use mathlib.Core.Bool.{Bool, true, false}
 use native.Mathlib.Nat.{add-zero}
 use native.Mathlib.Omega.{arith}
 use lib.Dec.{eqb}
-use lib.ListN.{length, take, drop}
+use lib.ListN.{length, drop}
 use Rattle.choice.specs.Pick.{pick}
 use Rattle.text.specs.Bytes.{lineFeed}
 use Rattle.text.specs.declared.Expected.{Expected}
@@ -15,18 +15,7 @@ use Rattle.text.specs.declared.Fault.{Fault}
 use Rattle.text.specs.declared.Stop.{Stop}
 use Rattle.text.specs.Taking.{oneMore, nextLine, nextColumn, passed, keptWord, withWord, withFault, faultAt, Took, stopsAt, moveAt, takeFrom}
 use Rattle.text.proofs.Laws.{met-all, met-both, some-bytes}
-use Rattle.pages.specs.Packing.{Gathered, faultThen, gatherFrom}
-
-abbrev gathered : Reader → List ℕ → Gathered
-gathered s words = record { reader = s; words = words; faults = [] }
-
--- what a call of `take` leaves to be gathered: nothing at the end of the text, and after a fault the bytes after it
-abbrev pub goesOn : Took → ℕ → List ℕ → Gathered
-goesOn t i text =
-    elim (t .taken .stop) [
-      | Stop.TextEnd ↦ gathered (t .taken .reader) (t .words)
-      | Stop.Bad f ↦ faultThen f (gatherFrom (t .taken .reader) (drop (t .taken .bytes - i) text) (t .words))
-    ]
+use Rattle.pages.specs.Packing.{Gathered, faultThen, gatherFrom, goesOn}
 
 -- what a call says of the faults, and of its bytes where there was none
 abbrev pub Says : ℕ → ℕ → ℕ → Took → Type 0

@@ -24,7 +24,7 @@ use Rattle.lines.specs.Lines.{refusedLine}
 use Rattle.lines.specs.Words.{textOf, faultLine}
 use Rattle.pages.specs.Running.{readingOf, ifAccepted, refusalSaid, runText, runSaid, pageText, pageSaid}
 use Rattle.pages.specs.Unpacking.{unpackedText, unpackedSaid}
-use Rattle.pages.specs.Packing.{Gathered, faultThen, gatherFrom, mostNamed, namedFrom}
+use Rattle.pages.specs.Packing.{Gathered, faultThen, gatherFrom, mostNamed, namedFrom, gatherOn, badAfter}
 
 -- a trace that is too long is refused, whatever it would have made
 module _ (t : List ℕ) (long : tooLong wordsPerRecord ≤ length t) (x y : List ℕ) (refusal : ℕ → ℕ → List ℕ) where
@@ -57,14 +57,6 @@ module _ (t u : List ℕ) (size : length u ≡ keptLength wordsPerRecord (length
   unfolding unpackedText unpackedSaid
   kept-unpacked = (kept-text (λ (l : List ℕ). textOf (readWords wordsPerRecord l)) (λ (number index : ℕ). []), kept-text (λ (l : List ℕ). []) (refusalSaid UnpackTrace))
 
--- some bytes, and then more
-abbrev pub gatherOn : Gathered → List ℕ → Gathered
-gatherOn g more = record {
-  reader = gatherFrom (g .reader) more (g .words) .reader;
-  words = gatherFrom (g .reader) more (g .words) .words;
-  faults = g .faults ++ gatherFrom (g .reader) more (g .words) .faults;
-}
-
 pub gather-pieces : (s : Reader) (text more words : List ℕ) → gatherFrom s (text ++ more) words ≡ gatherOn (gatherFrom s text words) more
 unfolding gatherFrom
 gather-pieces s [] more words = refl
@@ -80,11 +72,6 @@ gather-pieces s (b ∷ text) more words =
     (gather-pieces next text more words)
     (λ y. gather-pieces (withWord next (length words)) text more (keptWord (s .found) y words))
     (λ e. ap (faultThen (faultAt s e)) (gather-pieces (withFault next) text more words))
-
--- how many lines are bad after some more, and what is named of them in pieces
-abbrev pub badAfter : ℕ → List Fault → ℕ
-badAfter k [] = k
-badAfter k (f ∷ faults) = badAfter (oneMore k) faults
 
 pub named-pieces : (k : ℕ) (xs ys : List Fault) → namedFrom k (xs ++ ys) ≡ namedFrom k xs ++ namedFrom (badAfter k xs) ys
 named-pieces k [] ys = refl

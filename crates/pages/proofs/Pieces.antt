@@ -19,10 +19,10 @@ use Rattle.lines.specs.Putting.{Puts}
 use Rattle.lines.specs.Words.{faultLine}
 use Rattle.lines.proofs.Putting.{puts-both}
 use Rattle.lines.proofs.Longest.{fault-line-le}
-use Rattle.pages.specs.Packing.{Gathered, faultThen, gatherFrom, mostNamed, namedFrom}
+use Rattle.pages.specs.Packing.{Gathered, faultThen, gatherFrom, mostNamed, namedFrom, goesOn}
 use Rattle.pages.specs.Naming.{faultBytes, namedBytes, Names}
 use Rattle.pages.proofs.Longest.{one-more-up, one-more-no-less}
-use Rattle.pages.proofs.Gathered.{goesOn, Says, gather-take, take-says}
+use Rattle.pages.proofs.Gathered.{Says, gather-take, take-says}
 
 -- how far what is said goes, with one fault more
 one-fault-more : (at end end′ k : ℕ) (f : Fault) → end ≤ at + faultBytes * k → end ≤ at + namedBytes → end′ ≡ end + length (pick (ltb k mostNamed) (faultLine f) [])

@@ -1,16 +1,16 @@
 -- What `packtrace` makes of a text, and what it says of it. Document 01 says nothing of traces as text: the form is ours (docs/DECISIONS.md).
 use mathlib.Core.Path.{_≡_}
-use Prim.Native.Nat.{ℕ, _-_}
+use Prim.Native.Nat.{ℕ, _-_, _+_}
 use mathlib.Core.Bool.{Bool, false}
 use mathlib.Core.List.{List, [], _∷_, _++_}
 use lib.Dec.{eqb, ltb}
-use lib.ListN.{length, take, getD}
+use lib.ListN.{length, take, getD, drop}
 use Rattle.choice.specs.Pick.{pick}
 use Rattle.choice.specs.Tells.{Placed}
 use Rattle.text.specs.declared.Reader.{Reader}
 use Rattle.text.specs.declared.Fault.{Fault}
 use Rattle.text.specs.Bytes.{lineFeed}
-use Rattle.text.specs.Taking.{oneMore, passed, keptWord, withWord, withFault, faultAt, moveAt, metBy}
+use Rattle.text.specs.Taking.{oneMore, passed, keptWord, withWord, withFault, faultAt, moveAt, metBy, Took}
 use Rattle.trace.specs.Layout.{wordsPerRecord}
 use Rattle.trace.specs.Writing.{traceOf, writeOf}
 use Rattle.lines.specs.declared.Program.the-variants.{PackTrace}
@@ -22,6 +22,7 @@ use Rattle.pages.specs.declared.PieceTaken.{PieceTaken}
 use Rattle.pages.specs.declared.Written.{Written}
 use Rattle.pages.specs.Writing.{Writes}
 use Rattle.pages.specs.Running.{ifAccepted, refusalSaid}
+use Rattle.text.specs.declared.Stop.{Stop}
 
 -- the reader after some bytes of a text, the lent words, and the lines that cannot be read, in their order
 pub record Gathered : Type 0 where
@@ -111,3 +112,27 @@ packedSaid s g room = namedFrom (s .faults) (g .faults) ++ (unnamedSaid (g .read
 pub record EndsText (s : Reader) (r : Written) (words out errors words′ out′ errors′ : List ℕ) : Type 0 where
   pub kept : words′ ≡ endedFrom s words .words
   pub written : Writes (packedText (endedFrom s words) (length out)) (packedSaid s (endedFrom s words) (length out)) r out errors out′ errors′
+
+-- some bytes, and then more
+abbrev pub gatherOn : Gathered → List ℕ → Gathered
+gatherOn g more = record {
+  reader = gatherFrom (g .reader) more (g .words) .reader;
+  words = gatherFrom (g .reader) more (g .words) .words;
+  faults = g .faults ++ gatherFrom (g .reader) more (g .words) .faults;
+}
+
+-- how many lines are bad after some more, and what is named of them in pieces
+abbrev pub badAfter : ℕ → List Fault → ℕ
+badAfter k [] = k
+badAfter k (f ∷ faults) = badAfter (oneMore k) faults
+
+abbrev pub gathered : Reader → List ℕ → Gathered
+gathered s words = record { reader = s; words = words; faults = [] }
+
+-- what a call of `take` leaves to be gathered: nothing at the end of the text, and after a fault the bytes after it
+abbrev pub goesOn : Took → ℕ → List ℕ → Gathered
+goesOn t i text =
+    elim (t .taken .stop) [
+      | Stop.TextEnd ↦ gathered (t .taken .reader) (t .words)
+      | Stop.Bad f ↦ faultThen f (gatherFrom (t .taken .reader) (drop (t .taken .bytes - i) text) (t .words))
+    ]

@@ -13,11 +13,7 @@ use Rattle.machine.specs.declared.Completed.{Completed}
 use Rattle.machine.specs.declared.Completed.the-variants.{NoInstruction, Instruction}
 use Rattle.machine.specs.Cycles.{cycleOf, completions}
 use Rattle.run.specs.Splitting.{cycleAt, cyclesFrom, reportWords, wordsPerReport}
-use Rattle.run.specs.Courses.{Step, Course, closing, stepThen, turnThen, runFrom, machineAfter, completedIn, reportsOf}
-
--- steps, and then a course
-abbrev pub preceded : List Step → Course → Course
-preceded past c = record { steps = past ++ c .steps; close = c .close }
+use Rattle.run.specs.Courses.{Step, Course, closing, stepThen, turnThen, runFrom, machineAfter, completedIn, reportsOf, preceded}
 
 pub preceded-more : (past more : List Step) (c : Course) → preceded past (preceded more c) ≡ preceded (past ++ more) c
 preceded-more past more c = ap (λ (s : List Step). record { steps = s; close = c .close }) (sym (append-assoc past more (c .steps)))

@@ -11,21 +11,7 @@ use Rattle.machine.specs.declared.Machine.{Machine}
 use Rattle.machine.specs.declared.Words.{Words}
 use Rattle.machine.specs.declared.Report.{Report}
 use Rattle.machine.specs.Cycles.{cycleOf}
-use Rattle.run.specs.Courses.{Step, Finish, done, stopped, Course, stepThen, turnThen, runFrom, machineAfter}
-use Rattle.run.proofs.Courses.{preceded}
-
--- the first where a course finished so, else the second
-abbrev pub finishedAs : Finish → Option Finish → Course → Course → Course
-finishedAs done (some done) x y = x
-finishedAs done (some stopped) x y = y
-finishedAs stopped (some done) x y = y
-finishedAs stopped (some stopped) x y = x
-finishedAs done none x y = y
-finishedAs stopped none x y = y
-
--- a course and then, where it finished so, another from the machine that it leaves
-abbrev pub continued : Finish → Course → Course → Course
-continued f c d = finishedAs f (c .close .value) (preceded (c .steps) d) c
+use Rattle.run.specs.Courses.{Step, Finish, done, stopped, Course, stepThen, turnThen, runFrom, machineAfter, preceded, finishedAs, continued}
 
 step-first : (f : Finish) (v : Option Finish) (s : Step) (x y : Course) → stepThen s (finishedAs f v x y) ≡ finishedAs f v (stepThen s x) (stepThen s y)
 step-first done (some done) s x y = refl

@@ -18,10 +18,10 @@ use Rattle.run.specs.declared.Ending.{Ending}
 use Rattle.run.specs.declared.Ending.the-variants.{Done, Stopped, Refused}
 use Rattle.run.specs.declared.Ran.{Ran}
 use Rattle.run.specs.Splitting.{cycleAt, cyclesFrom, reportWords, wordsPerReport}
-use Rattle.run.specs.Courses.{Step, Finish, done, stopped, Course, closing, turnThen, runFrom, machineAfter, completedIn, reportsOf}
+use Rattle.run.specs.Courses.{Step, Finish, done, stopped, Course, closing, turnThen, runFrom, machineAfter, completedIn, reportsOf, preceded}
 use Rattle.run.specs.Runs.{Summary, placed, summaryOf, endingTells, ranTells, Gives}
 use Rattle.run.proofs.Stored.{take-stored, drop-stored}
-use Rattle.run.proofs.Courses.{preceded, preceded-more, completions-le, machine-after, completed-in, reports-of, reports-length, runs-on, accepted-then, refused-then}
+use Rattle.run.proofs.Courses.{preceded-more, completions-le, machine-after, completed-in, reports-of, reports-length, runs-on, accepted-then, refused-then}
 
 -- before cycle i: the steps so far, what was counted and written of them, and the run still to come
 pub record Before (words : List ℕ) (budget : ℕ) (start : Machine) (reports₀ : List ℕ) (cycles : ℕ) (reports : List ℕ) (state : Machine) (left completed i : ℕ) : Type 0 where

@@ -2,7 +2,7 @@
 -- Runs: here the cycles may be any number, and a word that may not wait is refused by the cycle itself.
 use Prim.Native.Nat.{ℕ, zero, suc, _+_}
 use mathlib.Core.List.{List, [], _∷_, _++_}
-use mathlib.Core.Option.{none, some}
+use mathlib.Core.Option.{none, some, Option}
 use Rattle.choice.specs.Tells.{Tells, accepted, refused}
 use Rattle.machine.specs.declared.Machine.{Machine}
 use Rattle.machine.specs.declared.Words.{Words}
@@ -55,3 +55,20 @@ completedIn (s ∷ steps) = completions (s .report .completed) + completedIn ste
 abbrev pub reportsOf : List Step → List ℕ
 reportsOf [] = []
 reportsOf (s ∷ steps) = reportWords (s .report) ++ reportsOf steps
+
+-- steps, and then a course
+abbrev pub preceded : List Step → Course → Course
+preceded past c = record { steps = past ++ c .steps; close = c .close }
+
+-- the first where a course finished so, else the second
+abbrev pub finishedAs : Finish → Option Finish → Course → Course → Course
+finishedAs done (some done) x y = x
+finishedAs done (some stopped) x y = y
+finishedAs stopped (some done) x y = y
+finishedAs stopped (some stopped) x y = x
+finishedAs done none x y = y
+finishedAs stopped none x y = y
+
+-- a course and then, where it finished so, another from the machine that it leaves
+abbrev pub continued : Finish → Course → Course → Course
+continued f c d = finishedAs f (c .close .value) (preceded (c .steps) d) c

@@ -9,7 +9,7 @@ use Rattle.text.specs.declared.Met.{Met}
 use Rattle.text.specs.declared.Reader.{Reader}
 use Rattle.text.specs.declared.Stop.{Stop}
 use Rattle.text.specs.declared.Taken.{Taken}
-use Rattle.text.specs.Taking.{startOf, passed, keptWord, withWord, withFault, faultAt, Took, stopsAt, moveAt, metBy, takeFrom, Takes}
+use Rattle.text.specs.Taking.{startOf, passed, keptWord, withWord, withFault, faultAt, Took, stopsAt, moveAt, metBy, takeFrom, Takes, goesOn}
 
 pub start-unique : (r q : Reader) → r ≡ startOf → q ≡ startOf → r ≡ q
 start-unique r q e f = e ∙ sym f
@@ -68,10 +68,6 @@ left-some piece from s r before after h t =
     let size : length (take (length piece - from) (drop from piece)) ≡ length piece - from = simp (length-take, length-drop) (omega arith) in
     let taken = take-some s (take (length piece - from) (drop from piece)) r before after t (omega (arith, size)) in
     (taken .0, omega (arith, taken .1, size))
-
--- what follows a piece of a text: the next piece, unless there was a fault
-abbrev pub goesOn : Took → List ℕ → Took
-goesOn t rest = elim (t .taken .stop) [ Stop.TextEnd ↦ takeFrom (t .taken .bytes) (t .taken .reader) rest (t .words) | Stop.Bad f ↦ t ]
 
 by-met : (x : Met) (rest : List ℕ) (n m : Took) (w v : ℕ → Took) (f : Expected → Took) → n ≡ goesOn m rest → ((y : ℕ) → w y ≡ goesOn (v y) rest)
     → ((e : Expected) → f e ≡ goesOn (f e) rest) → metBy x n w f ≡ goesOn (metBy x m v f) rest

@@ -1,23 +1,17 @@
 -- What a text of whole lines is read as: digit by digit, word by word, line by line.
 use mathlib.Core.Path.{_≡_, refl, sym, ap, _∙_}
 use mathlib.Core.Bool.{Bool, true, false}
-use mathlib.Core.List.{List, [], _∷_}
+use mathlib.Core.List.{List, _∷_}
 use Prim.Native.Nat.{ℕ, suc, _+_, _/_, _%_, _<_}
 use native.Mathlib.Omega.{arith}
-use lib.Dec.{eqb, ltb}
+use lib.Dec.{eqb}
 use lib.ListN.{length, set}
 use borrow.Author.Tests.{eqb-true, lt-ltb}
 use Rattle.text.specs.declared.Kind.{Kind}
-use Rattle.text.specs.declared.Place.{Place}
-use Rattle.text.specs.declared.Place.the-variants.{Between, Within, After, Rest}
-use Rattle.text.specs.declared.Reader.{Reader}
+use Rattle.text.specs.declared.Place.the-variants.{Between, Within, After}
 use Rattle.text.specs.Bytes.{lineFeed, digitValue, kindOf}
 use Rattle.text.specs.Lines.{wordsPerLine, withDigit, moveOf}
-use Rattle.text.specs.Taking.{oneMore, passed, keptWord, withWord, Took, takeFrom}
-
--- a reader, by its parts
-abbrev pub reader : ℕ → ℕ → ℕ → Place → ℕ → ℕ → Reader
-reader line column words place found faults = record { line = line; column = column; words = words; place = place; found = found; faults = faults }
+use Rattle.text.specs.Taking.{oneMore, passed, takeFrom, reader}
 
 -- b is a hex digit that is worth d
 module _ (b d : ℕ) (value : digitValue b ≡ d) (small : d < 16) where

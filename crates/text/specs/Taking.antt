@@ -15,6 +15,7 @@ use Rattle.text.specs.declared.Stop.{Stop}
 use Rattle.text.specs.declared.Taken.{Taken}
 use Rattle.text.specs.Bytes.{lineFeed, kindOf}
 use Rattle.text.specs.Lines.{moveOf}
+use Rattle.text.specs.declared.Place.{Place}
 
 -- before the first byte: line 1, column 1
 abbrev pub startOf : Reader
@@ -88,3 +89,11 @@ takeFrom i s (b ∷ bytes) words =
 pub record Takes (s : Reader) (text : List ℕ) (r : Taken) (before after : List ℕ) : Type 0 where
   pub taken : r ≡ takeFrom 0 s text before .taken
   pub written : after ≡ takeFrom 0 s text before .words
+
+-- what follows a piece of a text: the next piece, unless there was a fault
+abbrev pub goesOn : Took → List ℕ → Took
+goesOn t rest = elim (t .taken .stop) [ Stop.TextEnd ↦ takeFrom (t .taken .bytes) (t .taken .reader) rest (t .words) | Stop.Bad f ↦ t ]
+
+-- a reader, by its parts
+abbrev pub reader : ℕ → ℕ → ℕ → Place → ℕ → ℕ → Reader
+reader line column words place found faults = record { line = line; column = column; words = words; place = place; found = found; faults = faults }

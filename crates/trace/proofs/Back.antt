@@ -10,11 +10,11 @@ use lib.Seq.{take-at, drop-at, take-all, take-add, drop-cons}
 use borrow.Author.Tests.{eqb-true}
 use Rattle.choice.specs.Tells.{acceptedWhole}
 use Rattle.trace.specs.Check.{checkOf}
-use Rattle.trace.specs.Layout.{fullCount, part, wordAt, bytesOf, joined}
+use Rattle.trace.specs.Layout.{fullCount, part, wordAt, bytesOf, joined, Bytes}
 use Rattle.trace.specs.Blocks.{countOf, recordsEnd, checkHeld, checkGood, blockRefusal, recordWords, headOf, bodyOf, sealed, blockOf}
 use Rattle.trace.specs.Reading.{blocksOf, blockRefusals, afterBlocks, recordCount, allRecordWords}
 use Rattle.trace.specs.Writing.{blocksFrom}
-use Rattle.trace.proofs.Words.{Bytes, bytes-take, bytes-drop, bytes-words, all-zeros, none-left}
+use Rattle.trace.proofs.Words.{bytes-take, bytes-drop, bytes-words, all-zeros, none-left}
 use Rattle.trace.proofs.Parts.{length-blocks}
 use Rattle.trace.proofs.Sound.{count-fits, count-good-says, sound-says, sound-shape, sound-count, records-long}
 use Rattle.trace.proofs.Judged.{sound-first}

@@ -1,4 +1,6 @@
--- Each number of the reader and the writer is given exactly when its condition holds and no earlier one does.
+-- Each number of the reader and the writer is given exactly when its condition holds and no earlier one does: by the length `whole-eleven`,
+-- `whole-two`, of a block `block-twelve` and on, at the end `end-two`, `end-three`, of the writer `write-one` and on; then `write-refuses` and, last,
+-- `read-refuses`.
 use mathlib.Core.Path.{_≡_, refl, sym, ap, subst, _∙_}
 use mathlib.Core.Bool.{Bool, true, false, not}
 use mathlib.Core.Logic.{_↔_}
@@ -7,7 +9,6 @@ use Prim.Native.Nat.{ℕ, zero, suc, _+_, _*_, _/_, _%_, _≤_, _<_}
 use native.Mathlib.Nat.{zero-add}
 use native.Mathlib.Omega.{arith}
 use lib.Dec.{T, eqb, ltb}
-use lib.ListN.{length}
 use borrow.Author.Tests.{eqb-true, eqb-false, eq-eqb, ne-eqb}
 use Rattle.choice.specs.Checks.{check, refusal, clear}
 use Rattle.choice.specs.Tells.{Placed, acceptedWhole, refusedAt}
@@ -21,7 +22,8 @@ use Rattle.run.specs.Runs.{mostCycles}
 use Rattle.trace.specs.Limits.{mostBlocks, blocksFor}
 use Rattle.trace.specs.Reading.{traceBlocks, blockRefusals, afterBlocks, recordCount, wholeChecks, endChecks, readEnd, readOf}
 use Rattle.trace.specs.Writing.{writeChecks, writeOf}
-use Rattle.trace.proofs.Judged.{number, afterFrom, after-all, after-none, after-step}
+use Rattle.trace.specs.Refusing.{blockCount, wholeNumber, blockNumber, endNumber, Refuses, by-length, by-block, by-end}
+use Rattle.trace.proofs.Judged.{afterFrom, after-all, after-none, after-step}
 
 -- the checks of a whole trace, by its length
 module _ (w bytes : ℕ) where
@@ -122,104 +124,85 @@ unfolding writeOf
 write-refuses w n room k i some = checks-decide (refusal (writeChecks w n room)) (blocksFor n * blockBytes) k i some
 
 module _ (w : ℕ) (t : List ℕ) where
-  abbrev pub blocks : ℕ
-  blocks = length t / blockBytes
-
-  -- the refusal number of block j, by its place
-  abbrev pub blockNumber : ℕ → ℕ
-  blockNumber j = number w blocks t j
-
-  abbrev pub wholeNumber : ℕ
-  wholeNumber = refusal (wholeChecks w (length t))
-
   module _ (rest : Placed ℕ) where
     -- sound blocks are passed over
-    passed : (i : ℕ) → i ≤ blocks → ((j : ℕ) → j < i → blockNumber j ≡ 0) → afterFrom w blocks t 0 rest ≡ afterFrom w blocks t i rest
+    passed : (i : ℕ) → i ≤ blockCount t → ((j : ℕ) → j < i → blockNumber w t j ≡ 0) → afterFrom w (blockCount t) t 0 rest ≡ afterFrom w (blockCount t) t i rest
     passed zero h sound = refl
     passed (suc i) h sound =
         let next : i + 1 ≡ suc i = omega arith in
-        passed i (omega arith) (λ j l. sound j (omega arith)) ∙ after-step w blocks t i (omega arith) rest
-        ∙ picked (eqb (blockNumber i) 0) (afterFrom w blocks t (i + 1) rest) (refusedAt (blockNumber i) i) (eq-eqb (blockNumber i) 0 (sound i (omega arith)))
-        ∙ ap (λ (j : ℕ). afterFrom w blocks t j rest) next
+        passed i (omega arith) (λ j l. sound j (omega arith)) ∙ after-step w (blockCount t) t i (omega arith) rest
+        ∙ picked (eqb (blockNumber w t i) 0) (afterFrom w (blockCount t) t (i + 1) rest) (refusedAt (blockNumber w t i) i) (eq-eqb (blockNumber w t i) 0 (sound i (omega arith)))
+        ∙ ap (λ (j : ℕ). afterFrom w (blockCount t) t j rest) next
 
   -- all blocks are sound, or there is a first that is not
   data Found : Type 0 where
-    all-pass : ((j : ℕ) → j < blocks → blockNumber j ≡ 0) → Found
-    first-at : (i : ℕ) → i < blocks → ((j : ℕ) → j < i → blockNumber j ≡ 0) → (blockNumber i ≡ 0 → ⊥) → Found
+    all-pass : ((j : ℕ) → j < blockCount t → blockNumber w t j ≡ 0) → Found
+    first-at : (i : ℕ) → i < blockCount t → ((j : ℕ) → j < i → blockNumber w t j ≡ 0) → (blockNumber w t i ≡ 0 → ⊥) → Found
 
-  with-this : (k : ℕ) → ((j : ℕ) → j < k → blockNumber j ≡ 0) → blockNumber k ≡ 0 → (j : ℕ) → j < suc k → blockNumber j ≡ 0
+  with-this : (k : ℕ) → ((j : ℕ) → j < k → blockNumber w t j ≡ 0) → blockNumber w t k ≡ 0 → (j : ℕ) → j < suc k → blockNumber w t j ≡ 0
   with-this k sound e j h = by-test (eqb j k) refl
     where
-      by-test : (b : Bool) → eqb j k ≡ b → blockNumber j ≡ 0
-      by-test true q = ap blockNumber (eqb-true j k q) ∙ e
+      by-test : (b : Bool) → eqb j k ≡ b → blockNumber w t j ≡ 0
+      by-test true q = ap (blockNumber w t) (eqb-true j k q) ∙ e
       by-test false q = sound j (omega (arith, eqb-false j k q))
 
-  look : (left k : ℕ) → k + left ≡ blocks → ((j : ℕ) → j < k → blockNumber j ≡ 0) → Found
+  look : (left k : ℕ) → k + left ≡ blockCount t → ((j : ℕ) → j < k → blockNumber w t j ≡ 0) → Found
   look zero k e sound = all-pass (λ j h. sound j (omega arith))
-  look (suc left) k e sound = by-test (eqb (blockNumber k) 0) refl (λ z. look left (suc k) (omega arith) (with-this k sound z))
+  look (suc left) k e sound = by-test (eqb (blockNumber w t k) 0) refl (λ z. look left (suc k) (omega arith) (with-this k sound z))
     where
-      by-test : (b : Bool) → eqb (blockNumber k) 0 ≡ b → (blockNumber k ≡ 0 → Found) → Found
-      by-test true q further = further (eqb-true (blockNumber k) 0 q)
-      by-test false q further = first-at k (omega arith) sound (eqb-false (blockNumber k) 0 q)
+      by-test : (b : Bool) → eqb (blockNumber w t k) 0 ≡ b → (blockNumber w t k ≡ 0 → Found) → Found
+      by-test true q further = further (eqb-true (blockNumber w t k) 0 q)
+      by-test false q further = first-at k (omega arith) sound (eqb-false (blockNumber w t k) 0 q)
 
   module _ (room : ℕ) where
-    abbrev pub endNumber : ℕ
-    endNumber = refusal (endChecks w (recordCount (traceBlocks t)) room)
-
-    -- why the reader refuses with k at i: by the length; by block i, the first that is not sound; or, with all blocks sound, at the end
-    pub data Refuses (k i : ℕ) : Type 0 where
-      by-length : wholeNumber ≡ k → i ≡ 0 → Refuses k i
-      by-block : wholeNumber ≡ 0 → i < blocks → ((j : ℕ) → j < i → blockNumber j ≡ 0) → blockNumber i ≡ k → Refuses k i
-      by-end : wholeNumber ≡ 0 → ((j : ℕ) → j < blocks → blockNumber j ≡ 0) → endNumber ≡ k → i ≡ 0 → Refuses k i
-
     abbrev end : Placed ℕ
     end = readEnd w (recordCount (traceBlocks t)) room
 
-    whole-decides : (wholeNumber ≡ 0 → ⊥) → readOf w t room ≡ refusedAt wholeNumber 0
+    whole-decides : (wholeNumber w t ≡ 0 → ⊥) → readOf w t room ≡ refusedAt (wholeNumber w t) 0
     unfolding readOf
-    whole-decides n = refused-first wholeNumber (afterBlocks 0 (blockRefusals w 0 (traceBlocks t)) end) n
+    whole-decides n = refused-first (wholeNumber w t) (afterBlocks 0 (blockRefusals w 0 (traceBlocks t)) end) n
 
-    blocks-decide : wholeNumber ≡ 0 → readOf w t room ≡ afterFrom w blocks t 0 end
+    blocks-decide : wholeNumber w t ≡ 0 → readOf w t room ≡ afterFrom w (blockCount t) t 0 end
     unfolding readOf
-    blocks-decide e = rest-first wholeNumber (afterBlocks 0 (blockRefusals w 0 (traceBlocks t)) end) e ∙ sym (after-all w blocks t end)
+    blocks-decide e = rest-first (wholeNumber w t) (afterBlocks 0 (blockRefusals w 0 (traceBlocks t)) end) e ∙ sym (after-all w (blockCount t) t end)
 
-    block-decides : (i : ℕ) → i < blocks → ((j : ℕ) → j < i → blockNumber j ≡ 0) → (blockNumber i ≡ 0 → ⊥) → afterFrom w blocks t 0 end ≡ refusedAt (blockNumber i) i
+    block-decides : (i : ℕ) → i < blockCount t → ((j : ℕ) → j < i → blockNumber w t j ≡ 0) → (blockNumber w t i ≡ 0 → ⊥) → afterFrom w (blockCount t) t 0 end ≡ refusedAt (blockNumber w t i) i
     block-decides i h sound n =
-        passed end i (omega arith) sound ∙ after-step w blocks t i h end
-        ∙ unpicked (eqb (blockNumber i) 0) (afterFrom w blocks t (i + 1) end) (refusedAt (blockNumber i) i) (ne-eqb (blockNumber i) 0 n)
+        passed end i (omega arith) sound ∙ after-step w (blockCount t) t i h end
+        ∙ unpicked (eqb (blockNumber w t i) 0) (afterFrom w (blockCount t) t (i + 1) end) (refusedAt (blockNumber w t i) i) (ne-eqb (blockNumber w t i) 0 n)
 
-    end-decides : ((j : ℕ) → j < blocks → blockNumber j ≡ 0) → afterFrom w blocks t 0 end ≡ end
-    end-decides sound = passed end blocks (omega arith) sound ∙ after-none w blocks t blocks end (omega arith)
+    end-decides : ((j : ℕ) → j < blockCount t → blockNumber w t j ≡ 0) → afterFrom w (blockCount t) t 0 end ≡ end
+    end-decides sound = passed end (blockCount t) (omega arith) sound ∙ after-none w (blockCount t) t (blockCount t) end (omega arith)
 
     -- the reader refuses with k at i exactly when one of the three says so
     module _ (k i : ℕ) (some : k ≡ 0 → ⊥) where
-      refused-by : readOf w t room ≡ refusedAt k i → Refuses k i
-      refused-by e = by-test (eqb wholeNumber 0) refl
+      refused-by : readOf w t room ≡ refusedAt k i → Refuses w t room k i
+      refused-by e = by-test (eqb (wholeNumber w t) 0) refl
         where
-          by-found : wholeNumber ≡ 0 → afterFrom w blocks t 0 end ≡ refusedAt k i → Found → Refuses k i
+          by-found : wholeNumber w t ≡ 0 → afterFrom w (blockCount t) t 0 end ≡ refusedAt k i → Found → Refuses w t room k i
           by-found z f (all-pass sound) =
-              let given = checks-decide endNumber (w * recordCount (traceBlocks t)) k i some .0 (sym (end-decides sound) ∙ f) in
+              let given = checks-decide (endNumber w t room) (w * recordCount (traceBlocks t)) k i some .0 (sym (end-decides sound) ∙ f) in
               by-end z sound (given .0) (given .1)
           by-found z f (first-at j h sound n) =
-              let both = refused-at-one (blockNumber j) k j i (sym (block-decides j h sound n) ∙ f) in
-              by-block z (subst (λ (x : ℕ). x < blocks) (both .1) h)
+              let both = refused-at-one (blockNumber w t j) k j i (sym (block-decides j h sound n) ∙ f) in
+              by-block z (subst (λ (x : ℕ). x < blockCount t) (both .1) h)
               (λ l g. sound l (subst (λ (x : ℕ). l < x) (sym (both .1)) g))
-              (ap blockNumber (sym (both .1)) ∙ both .0)
+              (ap (blockNumber w t) (sym (both .1)) ∙ both .0)
 
-          by-test : (b : Bool) → eqb wholeNumber 0 ≡ b → Refuses k i
+          by-test : (b : Bool) → eqb (wholeNumber w t) 0 ≡ b → Refuses w t room k i
           by-test true q =
-              let z : wholeNumber ≡ 0 = eqb-true wholeNumber 0 q in
-              by-found z (sym (blocks-decide z) ∙ e) (look blocks 0 (zero-add blocks) (λ j h. absurd (omega arith)))
+              let z : wholeNumber w t ≡ 0 = eqb-true (wholeNumber w t) 0 q in
+              by-found z (sym (blocks-decide z) ∙ e) (look (blockCount t) 0 (zero-add (blockCount t)) (λ j h. absurd (omega arith)))
           by-test false q =
-              let both = refused-at-one wholeNumber k 0 i (sym (whole-decides (eqb-false wholeNumber 0 q)) ∙ e) in
+              let both = refused-at-one (wholeNumber w t) k 0 i (sym (whole-decides (eqb-false (wholeNumber w t) 0 q)) ∙ e) in
               by-length (both .0) (sym (both .1))
 
-      refuses-so : Refuses k i → readOf w t room ≡ refusedAt k i
+      refuses-so : Refuses w t room k i → readOf w t room ≡ refusedAt k i
       refuses-so (by-length e z) = whole-decides (λ n. some (sym e ∙ n)) ∙ ap (λ (x : ℕ). refusedAt x 0) e ∙ ap (refusedAt k) (sym z)
       refuses-so (by-block z h sound e) =
           blocks-decide z ∙ block-decides i h sound (λ n. some (sym e ∙ n)) ∙ ap (λ (x : ℕ). refusedAt x i) e
       refuses-so (by-end z sound e zero-index) =
-          blocks-decide z ∙ end-decides sound ∙ checks-decide endNumber (w * recordCount (traceBlocks t)) k i some .1 (e, zero-index)
+          blocks-decide z ∙ end-decides sound ∙ checks-decide (endNumber w t room) (w * recordCount (traceBlocks t)) k i some .1 (e, zero-index)
 
-      pub read-refuses : (readOf w t room ≡ refusedAt k i) ↔ Refuses k i
+      pub read-refuses : (readOf w t room ≡ refusedAt k i) ↔ Refuses w t room k i
       read-refuses = (refused-by, refuses-so)

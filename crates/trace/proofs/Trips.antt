@@ -9,13 +9,12 @@ use lib.Seq.{take-at}
 use Rattle.choice.specs.Tells.{Placed, acceptedWhole}
 use Rattle.trace.specs.declared.Filled.{Filled}
 use Rattle.trace.specs.declared.Filled.the-variants.{Accepted}
-use Rattle.trace.specs.Layout.{blockBytes, fullCount}
+use Rattle.trace.specs.Layout.{blockBytes, fullCount, Bytes}
 use Rattle.trace.specs.Answers.{leaves}
 use Rattle.run.specs.Runs.{mostCycles}
 use Rattle.trace.specs.Limits.{blocksFor, mostBlocks}
 use Rattle.trace.specs.Reading.{blocksOf, traceBlocks, recordCount, readWords, readOf, Reads}
 use Rattle.trace.specs.Writing.{blocksFrom, traceOf, writeOf, Writes}
-use Rattle.trace.proofs.Words.{Bytes}
 use Rattle.trace.proofs.Answered.{judgement, read-done, write-done, write-says, read-says}
 use Rattle.trace.proofs.Round.{made-trace-long, made-blocks, round}
 use Rattle.trace.proofs.Back.{back}

@@ -11,7 +11,7 @@ use lib.Seq.{append-snoc, take-suc-set, take-all, drop-cons, getD-drop}
 use borrow.Author.Tests.{eqb-true}
 use Rattle.choice.specs.Pick.{pick}
 use Rattle.choice.proofs.Spans.{never}
-use Rattle.trace.specs.Layout.{wordsOf, bytesOf}
+use Rattle.trace.specs.Layout.{wordsOf, bytesOf, Bytes}
 use Rattle.trace.specs.Blocks.{allZero}
 
 -- both parts of a test that holds
@@ -76,10 +76,6 @@ words-bytes [] = refl
 words-bytes (x ∷ l) =
     let e : x % 256 + 256 * (x / 256) ≡ x = omega arith in
     rw (e, words-bytes l)
-
--- every element is a byte
-abbrev pub Bytes : List ℕ → Type 0
-Bytes l = (i : ℕ) → getD l i 0 < 256
 
 pub bytes-take : (n : ℕ) (l : List ℕ) → Bytes l → Bytes (take n l)
 bytes-take zero l h i = omega arith

@@ -1,6 +1,6 @@
 -- Where things stand in a trace block (document 01, blocks). A record is w words: three; a second form to come has four. With both, 252
 -- words of records fill a block.
-use Prim.Native.Nat.{ℕ, _+_, _-_, _*_, _/_, _%_}
+use Prim.Native.Nat.{ℕ, _+_, _-_, _*_, _/_, _%_, _<_}
 use mathlib.Core.List.{List, [], _∷_, _++_}
 use lib.ListN.{getD, take, drop}
 
@@ -50,3 +50,7 @@ bytesOf (x ∷ words) = x % 256 ∷ x / 256 ∷ bytesOf words
 abbrev pub joined : List (List ℕ) → List ℕ
 joined [] = []
 joined (l ∷ ls) = l ++ joined ls
+
+-- every element is a byte
+abbrev pub Bytes : List ℕ → Type 0
+Bytes l = (i : ℕ) → getD l i 0 < 256

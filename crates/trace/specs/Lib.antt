@@ -6,3 +6,4 @@ pub mod Answers
 pub mod Limits
 pub mod Reading
 pub mod Writing
+pub mod Refusing
