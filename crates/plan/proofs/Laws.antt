@@ -1,6 +1,6 @@
 -- What holds of the plans of all instructions of the list: one test over the fields of each family, and what it says.
 use Prim.{Unit}
-use mathlib.Core.Path.{_≡_, refl, _∙_, sym, ap}
+use mathlib.Core.Path.{_≡_, _∙_, sym, ap}
 use mathlib.Core.Bool.{Bool, true, false}
 use mathlib.Core.List.{List, [], _∷_}
 use Prim.Native.Nat.{ℕ, _<_}
@@ -8,7 +8,7 @@ use native.Mathlib.Nat.{mod-eq-of-lt}
 use lib.Dec.{T, eqb}
 use Rattle.choice.specs.Along.{same}
 use Rattle.choice.specs.Tells.{Tells, accepted}
-use Rattle.choice.proofs.Spans.{span, below, where-held, never}
+use Rattle.choice.proofs.Spans.{span, below, both, where-held, holds}
 use Rattle.choice.proofs.Decisions.{same-eq}
 use Rattle.isa.specs.declared.Family.{Family}
 use Rattle.isa.specs.declared.Family.the-variants.{Tor1, Rotr1, Rotr2, Rotc, Rotm, Sor, Bor2, Tor2, Shftr, Crcf, Crcr, Prt1, Prt2, Prt3, Svstr, Sonr, Tonr, Shftnr, Bor1, Bonr, Rotnr, Prtnr, Svstnr, Setst, Rstst, Test, Noop}
@@ -69,12 +69,16 @@ every (t ∷ ts) = elim t [ true ↦ every ts | false ↦ false ]
 
 abbrev Hold : List Bool → Type 0
 Hold [] = Unit {0}
-Hold (t ∷ ts) = (t ≡ true) × Hold ts
+Hold (t ∷ ts) = T t × Hold ts
 
 all-hold : (ts : List Bool) → T (every ts) → Hold ts
 all-hold [] h = tt
-all-hold (true ∷ ts) h = (refl, all-hold ts h)
-all-hold (false ∷ ts) h = absurd h
+all-hold (t ∷ ts) h =
+    let p = both t (every ts) h in
+    (p .0, all-hold ts (p .1))
+
+agree : (x y : Bool) → T (same x y) → x ≡ y
+agree x y h = same-eq x y (holds (same x y) h)
 
 good : Family → ℕ → ℕ → Work → Bool
 good f a b w = every (tests f a b w)
@@ -103,11 +107,6 @@ over-at f g t a b c h =
     (below (λ b. elim (has (r .a) a) [ true ↦ elim (has (r .b) b) [ true ↦ g a b | false ↦ true ] | false ↦ true ]) 16 b
     (below (λ a. span 0 16 (λ b. elim (has (r .a) a) [ true ↦ elim (has (r .b) b) [ true ↦ g a b | false ↦ true ] | false ↦ true ])) 16 a t (h .small-a)) (h .small-b))
     (h .in-a)) (h .in-b)
-
--- a test that is asked only where another holds
-asked : (b d : Bool) → elim b [ true ↦ d | false ↦ true ] ≡ true → b ≡ true → d ≡ true
-asked true d h e = h
-asked false d h e = absurd (never e)
 
 -- where the work does not depend on C, the test is over A and B, and else over C too
 all-good : (f : Family) (a b c : ℕ) → Fields f a b c → T (good f a b (workOf f a b c))
@@ -182,38 +181,42 @@ module _ (n : Named) (listed : Listed n) where
   -- the plan names I exactly when isa says that there is an I operand
   pub immediate-agrees : namesI (planOf n .work) ≡ asksI (namedRow n) (n .a) (n .b)
   unfolding tests
-  immediate-agrees = same-eq (namesI w) (asksI row (n .a) (n .b)) (held .0)
+  immediate-agrees = agree (namesI w) (asksI row (n .a) (n .b)) (held .0)
 
   -- the plan writes RAM exactly when document 01 sends the instruction there
   pub ram-agrees : writesRam (planOf n .work) ≡ toRam (n .family) (n .a) (n .b)
   unfolding tests
-  ram-agrees = same-eq (writesRam w) (toRam (n .family) (n .a) (n .b)) (held .1 .0)
+  ram-agrees = agree (writesRam w) (toRam (n .family) (n .a) (n .b)) (held .1 .0)
 
   -- it prioritizes ACC under ACC exactly when the rule of 8 is broken
   pub acc-agrees : accUnderAcc (planOf n .work) ≡ accTwice (namedRow n) (n .a) (n .b)
   unfolding tests
-  acc-agrees = same-eq (accUnderAcc w) (accTwice row (n .a) (n .b)) (held .1 .1 .0)
+  acc-agrees = agree (accUnderAcc w) (accTwice row (n .a) (n .b)) (held .1 .1 .0)
 
   -- it is a bit operation exactly when its family has the rule of 9
   pub bit-agrees : isBit (planOf n .work .task) ≡ eqb (namedRow n .rule) bitInMode
   unfolding tests
-  bit-agrees = same-eq (isBit (w .task)) (eqb (row .rule) bitInMode) (held .1 .1 .1 .0)
+  bit-agrees = agree (isBit (w .task)) (eqb (row .rule) bitInMode) (held .1 .1 .1 .0)
 
   -- a merge's destination is its R
   pub merge-goes-back : planOf n .work .task ≡ Merge → planOf n .work .destination ≡ back (planOf n .work .operands .second)
   unfolding tests
   merge-goes-back e =
       let to = sameDestination (w .destination) (back (w .operands .second)) in
-      destination-sound (w .destination) (back (w .operands .second)) (asked (isMerge (w .task)) to (held .1 .1 .1 .1 .0) (ap isMerge e))
+      destination-sound (w .destination) (back (w .operands .second)) (holds to (where-held (isMerge (w .task)) to (held .1 .1 .1 .1 .0) (ap isMerge e)))
 
   -- a merge's R and a bit operation's source are RAM, ACC or D
   pub merge-from : planOf n .work .task ≡ Merge → isRamAccOrLatch (planOf n .work .operands .second) ≡ true
   unfolding tests
-  merge-from e = asked (isMerge (w .task)) (isRamAccOrLatch (w .operands .second)) (held .1 .1 .1 .1 .1 .0) (ap isMerge e)
+  merge-from e =
+      let from = isRamAccOrLatch (w .operands .second) in
+      holds from (where-held (isMerge (w .task)) from (held .1 .1 .1 .1 .1 .0) (ap isMerge e))
 
   pub bit-from : isBit (planOf n .work .task) ≡ true → isRamAccOrLatch (planOf n .work .operands .first) ≡ true
   unfolding tests
-  bit-from e = asked (isBit (w .task)) (isRamAccOrLatch (w .operands .first)) (held .1 .1 .1 .1 .1 .1 .0) e
+  bit-from e =
+      let from = isRamAccOrLatch (w .operands .first) in
+      holds from (where-held (isBit (w .task)) from (held .1 .1 .1 .1 .1 .1 .0) e)
 
 -- the words: a word takes an I operand exactly when its plan names I, and its plan has the mode of its mark
 module _ (w : ℕ) (h : w < 0x10000) (n : Named) (e : decodeOf w ≡ accepted n) where
