@@ -296,7 +296,8 @@ module _ (n : Named) where
 
   -- 9: its family takes them, the rule about ACC is not broken, and the one about n is
   pub named-nine : (encodeOf n .number ≡ 9)
-      ↔ ((takes (namedRow n) (markFor (n .mode)) (n .a) (n .b) (n .c) ≡ true) × (accTwice (namedRow n) (n .a) (n .b) ≡ false) × (bitTooHigh (namedRow n) (markFor (n .mode)) (n .a) ≡ true))
+      ↔ ((takes (namedRow n) (markFor (n .mode)) (n .a) (n .b) (n .c) ≡ true) × (accTwice (namedRow n) (n .a) (n .b) ≡ false)
+      × (bitTooHigh (namedRow n) (markFor (n .mode)) (n .a) ≡ true))
   unfolding encodeOf
   named-nine =
       let e = by-nine (not listed) acc bit in

@@ -124,7 +124,8 @@ module _ (f : Family) (w : ℕ) (h : w < 0x10000) (t : InFamily f w) where
       (λ k. e .0 (same ∙ k), λ p. sym same ∙ e .1 p)
 
 -- so an accepted instruction never prioritizes ACC under ACC
-pub never-acc-twice : (n : Named) (w : ℕ) → encodeOf n ≡ accepted w → planOf n .work .task ≡ Prioritize → planOf n .work .operands .first ≡ Acc → planOf n .work .operands .mask ≡ Acc → ⊥
+pub never-acc-twice : (n : Named) (w : ℕ) → encodeOf n ≡ accepted w
+    → planOf n .work .task ≡ Prioritize → planOf n .work .operands .first ≡ Acc → planOf n .work .operands .mask ≡ Acc → ⊥
 never-acc-twice n w e t f g =
     let eight : encodeOf n .number ≡ 8 = eight-planned n (encode-takes n w e) .1 (t, f, g) in
     let none : encodeOf n .number ≡ 0 = ap (λ (t : Tells ℕ). t .number) e in
