@@ -46,7 +46,7 @@ use Rattle.listing.proofs.data_of.Reads as data-of-contract
 use Rattle.listpages.proofs.list_trace.Reads as list-trace-contract
 use Rattle.listpages.proofs.read_lines.Reads as read-lines-contract
 use Rattle.demands.specs.Calls.{Starts, TakesText, Performs, WritesBack, Decodes, LooksUp, Encodes, TakesImmediate, NumbersFamily, GivesRow, Plans, NamesImmediate, Cycles, StepsMachine, TakesApart, PutsTogether, MayStart, Runs, RunsFromZero, Checks, ReadsTrace, WritesTrace, Keeps, CycleLines, StateLines, RegisterLines, WordRefusedLines, LastLines, PageLines, WordsLines, FaultLines, RemarkLines, MakesLine, ShowsRun, ShowsWords, TakesPieces, EndsTexts, PrintsWord, ReadsWord, PrintsData, ReadsData, ShowsList, AnswersLines}
-use Rattle.demands.specs.Contracts.{States, first, second, third, fourth, fifth, sixth}
+use Rattle.choice.specs.Contracts.{States, first, second, third, fourth, fifth, sixth}
 
 pub record EveryContract : Type 1 where
   pub start : States start-contract.Asked start-contract.Learnt (λ κs a r b. Starts tt r)

@@ -131,18 +131,19 @@ module _ (i : RunInput) (o : Filling Ran) (p : Runs i o) where
       (refused-numbered machine (cycleAt words j) k (c .here))
 
   -- so a refusal is the whole run's, or that of a cycle
-  by-start : (k j : ℕ) → o .answer .ending ≡ Ending.Refused k j → ((whole ≡ k) × (j ≡ 0)) ⊎ ((whole ≡ 0) × CycleRefused m words (i .budget) k j)
+  by-start : (k j : ℕ) → o .answer .ending ≡ Ending.Refused k j → ((1 ≤ k) × (whole ≡ k) × (j ≡ 0)) ⊎ ((whole ≡ 0) × CycleRefused m words (i .budget) k j)
   by-start k j e = by-test (eqb whole 0) refl
     where
-      by-test : (b : Bool) → eqb whole 0 ≡ b → ((whole ≡ k) × (j ≡ 0)) ⊎ ((whole ≡ 0) × CycleRefused m words (i .budget) k j)
+      by-test : (b : Bool) → eqb whole 0 ≡ b → ((1 ≤ k) × (whole ≡ k) × (j ≡ 0)) ⊎ ((whole ≡ 0) × CycleRefused m words (i .budget) k j)
       by-test true q = let z = eqb-true whole 0 q in inr (z, cycle-ends z k j e)
       by-test false q =
-          let same = refused-at-one whole k 0 j (ap endingTells (sym (whole-ends (eqb-false whole 0 q)) ∙ e)) in
-          inl (same .0, sym (same .1))
+          let n = eqb-false whole 0 q in
+          let same = refused-at-one whole k 0 j (ap endingTells (sym (whole-ends n) ∙ e)) in
+          inl (omega (arith, n, same .0), same .0, sym (same .1))
 
   -- 1 to 4: the checks of the whole run give the number; the index is 0
   pub run-refused-exactly : (k j : ℕ) → 1 ≤ k → k ≤ 4 → (o .answer .ending ≡ Ending.Refused k j) ↔ ((whole ≡ k) × (j ≡ 0))
-  run-refused-exactly k j lo hi = ((λ e. ⊎-elim (λ h. h) (λ h. absurd (omega (arith, hi, cycle-range (h .0) k j (h .1) .0))) (by-start k j e)), back)
+  run-refused-exactly k j lo hi = ((λ e. ⊎-elim (λ h. (h .1, h .2)) (λ h. absurd (omega (arith, hi, cycle-range (h .0) k j (h .1) .0))) (by-start k j e)), back)
     where
       back : (whole ≡ k) × (j ≡ 0) → o .answer .ending ≡ Ending.Refused k j
       back h = whole-ends (λ z. omega (arith, z, h .0, lo)) ∙ ap₂ Ending.Refused (h .0) (sym (h .1))
@@ -150,7 +151,7 @@ module _ (i : RunInput) (o : Filling Ran) (p : Runs i o) where
   -- 5 to 10: the run is started, and cycle j is refused, all before it being accepted and the budget reaching it
   pub cycle-refused-exactly : (k j : ℕ) → 5 ≤ k → k ≤ 10 → (o .answer .ending ≡ Ending.Refused k j) ↔ ((whole ≡ 0) × CycleRefused m words (i .budget) k j)
   cycle-refused-exactly k j lo hi =
-      ((λ e. ⊎-elim (λ h. absurd (omega (arith, lo, h .0, whole-small))) (λ h. h) (by-start k j e)), (λ h. by-ending (h .0) (h .1) (o .answer .ending) (by-cycles (h .0) .ends)))
+      ((λ e. ⊎-elim (λ h. absurd (omega (arith, lo, h .1, whole-small))) (λ h. h) (by-start k j e)), (λ h. by-ending (h .0) (h .1) (o .answer .ending) (by-cycles (h .0) .ends)))
     where
       -- cycle j is not accepted
       not-past : whole ≡ 0 → CycleRefused m words (i .budget) k j → j < o .answer .accepted → ⊥
@@ -174,8 +175,9 @@ module _ (i : RunInput) (o : Filling Ran) (p : Runs i o) where
               ap (λ (x : ℕ). Ending.Refused x a) same ∙ ap (Ending.Refused k) (h .0 ∙ at)
 
   -- and no run ends in another number: a started one never in 4
-  pub run-numbers : (k j : ℕ) → o .answer .ending ≡ Ending.Refused k j → k ≤ 10
-  run-numbers k j e = ⊎-elim (λ h. omega (arith, h .0, whole-small)) (λ h. cycle-range (h .0) k j (h .1) .1) (by-start k j e)
+  pub run-numbers : (k j : ℕ) → o .answer .ending ≡ Ending.Refused k j → (1 ≤ k) × (k ≤ 10)
+  run-numbers k j e =
+      ⊎-elim (λ h. (h .0, omega (arith, h .1, whole-small))) (λ h. let r = cycle-range (h .0) k j (h .1) in (omega (arith, r .0), r .1)) (by-start k j e)
 
   pub started-never-four : whole ≡ 0 → (j : ℕ) → o .answer .ending ≡ Ending.Refused 4 j → ⊥
   started-never-four z j e = omega (arith, cycle-range z 4 j (cycle-ends z 4 j e) .0)

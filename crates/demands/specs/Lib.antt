@@ -2,4 +2,3 @@ pub mod Isolation
 pub mod Calls
 pub mod Wrong
 pub mod Examples
-pub mod Contracts
