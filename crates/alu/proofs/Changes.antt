@@ -1,4 +1,5 @@
 -- What every operation does to the result and the status: bounds, what stays, and which kind changes which bit.
+-- The laws, in this order: `plus-carry`, `result-lt`, `flags-stay`, `link-stays`, `status-lt`, `zero-flag`, `sign-flag`, `no-carry`.
 use mathlib.Core.Path.{_≡_, sym, ap, _∙_}
 use Prim.Native.Nat.{ℕ, _+_, _-_, _/_, _%_, _^_, _<_}
 use native.Mathlib.Nat.{mod-eq-of-lt}

@@ -1,4 +1,4 @@
--- What lies above the width in an operand neither counts nor shows: demand 3's arithmetic half.
+-- What lies above the width in an operand neither counts nor shows.
 use mathlib.Core.Path.{_≡_, sym, ap, _∙_}
 use Prim.Native.Nat.{ℕ, _^_}
 use native.Mathlib.Nat.{mod-mod}

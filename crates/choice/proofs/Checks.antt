@@ -1,4 +1,5 @@
 -- When a number of a list of checks is given: exactly when its condition holds and no earlier one does.
+-- The law: `exactly`.
 use mathlib.Core.Path.{_≡_, refl, _∙_, sym}
 use mathlib.Core.Bool.{Bool, true, false}
 use mathlib.Core.List.{List, [], _∷_, _++_}

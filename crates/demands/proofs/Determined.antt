@@ -1,4 +1,5 @@
 -- Demand 1, first part: every public call's statement determines its answer and all lent output, for every input.
+-- What is said is the record before `every-call`, at the end.
 use mathlib.Core.Path.{_≡_, ap, _∙_}
 use mathlib.Core.List.{List}
 use Prim.Native.Nat.{ℕ}

@@ -1,5 +1,6 @@
 -- Two different runs that meet demand 3's premises: a byte subtract of immediate data, which would borrow from the upper byte. The one
 -- subtracts 7140 from R1, which holds 1210; the other subtracts 1240 from 5610. The upper bytes of the bus inputs and of ACC differ too.
+-- The laws, in this order: `premises-met`, `pair-ends`.
 use mathlib.Core.Path.{_≡_, refl, subst⁻¹}
 use mathlib.Core.List.{List, [], _∷_}
 use Prim.Native.Nat.{ℕ, zero, suc, _<_}

@@ -1,6 +1,9 @@
 -- Demand 1, second part: the numbers of the answers, each exactly when, and what a refusal leaves as it was. Reader and writer first; then
 -- `run-refused-exactly` (1 to 4), `cycle-refused-exactly` (5 to 10), `run-numbers` and `started-never-four`; then one cycle, one step, words and named
 -- instructions.
+-- Further laws, in this order: `read-refused-exactly`, `read-refused-leaves`, `write-refused-exactly`, `write-refused-leaves`,
+-- `cycle-refused-leaves`, `one-cycle-refused-exactly`, `step-refused-exactly`, `step-refused-leaves`, `decode-refused-exactly`,
+-- `encode-refused-exactly`.
 use mathlib.Core.Path.{_≡_, refl, sym, ap, ap₂, subst, _∙_}
 use mathlib.Core.Bool.{Bool, true, false, not}
 use mathlib.Core.List.{List, [], _∷_}

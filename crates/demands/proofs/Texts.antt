@@ -1,5 +1,6 @@
 -- A trace as text: unpacked and packed again it is the same trace. The text is what `words_line` makes of the words that were read, line by
 -- line; reading, taking and writing are the calls' own answers.
+-- The law: `unpacked-and-packed`.
 use mathlib.Core.Path.{_≡_, refl, sym, ap, subst, _∙_}
 use mathlib.Core.List.{List, [], _∷_, _++_}
 use Prim.Native.Nat.{ℕ, zero, suc, _-_, _*_, _/_, _≤_}

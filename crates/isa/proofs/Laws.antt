@@ -1,5 +1,8 @@
 -- What holds of words and named instructions: both round trips, one family to a word, each number exactly when its condition
 -- holds, and one answer to each call.
+-- The laws, in this order: `family-in`, `one-family`, `encode-decode`, `encode-small`, `decode-encode`, `word-answered`, `named-answered`,
+-- `word-seven`, `word-eight`, `word-nine`, `named-seven`, `named-eight`, `named-nine`, `number-of-named`, `decode-unique`, `look-up-unique`,
+-- `encode-unique`, `number-of-unique`, `numbered-row-unique`, `takes-immediate-unique`.
 use mathlib.Core.Path.{_≡_, refl, _∙_, sym, ap, subst}
 use mathlib.Core.Bool.{Bool, true, false, not}
 use mathlib.Core.List.{List, [], _∷_}

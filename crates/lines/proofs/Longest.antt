@@ -1,4 +1,6 @@
 -- How long a line can be.
+-- The laws, in this order: `cycle-line-le`, `state-line-le`, `register-line-le`, `word-refused-line-le`, `last-line-le`, `words-line-le`,
+-- `fault-line-le`, `remark-line-le`.
 use Prim.{Unit}
 use mathlib.Core.Path.{_≡_, refl}
 use mathlib.Core.Bool.{Bool, true, false}

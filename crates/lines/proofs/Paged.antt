@@ -1,4 +1,5 @@
 -- Which line of a page stands where.
+-- The laws, in this order: `page-cycle`, `page-state`, `page-register`, `page-last`, `page-past`.
 use mathlib.Core.Path.{_≡_, refl, sym, ap, _∙_}
 use mathlib.Core.List.{List, [], _∷_, _++_}
 use Prim.Native.Nat.{ℕ, zero, suc, _+_, _<_}

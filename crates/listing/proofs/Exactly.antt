@@ -1,4 +1,6 @@
 -- Each refusal of a line that is read, told exactly: which items were read, and what stood where the reader stopped.
+-- The laws, in this order: `read-refused`, `twenty`, `twenty-one`, `twenty-two`, `seven-to-nine`, `data-refused`, `data-twenty-one`,
+-- `data-twenty-two`.
 use mathlib.Core.Path.{_≡_, refl, sym, ap, _∙_, subst}
 use mathlib.Core.Bool.{Bool, true, false}
 use mathlib.Core.List.{List, [], _∷_}

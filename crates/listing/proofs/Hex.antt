@@ -1,4 +1,5 @@
 -- Immediate data: its line gives the data, and a line that gives data is that data's line once runs of blanks are made one and the ends trimmed.
+-- The laws, in this order: `data-print-read`, `data-read-print`.
 use mathlib.Core.Path.{_≡_, refl, sym, ap, _∙_}
 use mathlib.Core.Bool.{Bool, true, false}
 use mathlib.Core.List.{List, [], _∷_, append-nil}

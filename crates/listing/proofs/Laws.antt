@@ -1,5 +1,6 @@
 -- What holds of lines: a word's line gives the word, and a line that gives a word is that word's line once runs of blanks are made one and
 -- the ends trimmed.
+-- The laws, in this order: `read-print`, `print-read`.
 use mathlib.Core.Path.{_≡_, sym, ap, _∙_, subst}
 use mathlib.Core.Bool.{true}
 use mathlib.Core.List.{List, [], _∷_, _++_, append-nil}

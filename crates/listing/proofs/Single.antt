@@ -1,4 +1,5 @@
 -- One outcome to each call, one word to each line, and what a line is at most long.
+-- The laws, in this order: `line-of-unique`, `data-line-unique`, `word-of-unique`, `data-of-unique`, `one-word`, `line-short`.
 use mathlib.Core.Path.{_≡_, refl, sym, ap, _∙_, subst}
 use mathlib.Core.Bool.{Bool, true, false}
 use mathlib.Core.List.{List, [], _∷_, _++_, append-nil}

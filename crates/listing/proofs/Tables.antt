@@ -1,5 +1,6 @@
 -- What the lists of names have in common, each computed once: the names of one list are distinct, have no blank and fit a key; and a family
 -- writes just the values that its row has.
+-- The laws, in this order: `family-good`, `mode-good`, `good-a`, `good-b`, `good-c`, `writes-a`, `writes-b`, `writes-c`.
 use mathlib.Core.Path.{_≡_, refl, sym, ap, _∙_, subst}
 use mathlib.Core.Bool.{Bool, true, false, not}
 use mathlib.Core.List.{List, [], _∷_}

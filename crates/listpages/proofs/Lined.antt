@@ -1,4 +1,5 @@
 -- The lines of a text, one after another.
+-- The law: `lines-append`.
 use mathlib.Core.Path.{_≡_, refl, sym, ap, _∙_}
 use mathlib.Core.Bool.{Bool, true, false}
 use mathlib.Core.List.{List, [], _∷_, _++_, append-nil}

@@ -1,4 +1,5 @@
 -- No listing is longer than the room for it, nor are the answers to a piece.
+-- The laws, in this order: `list-fits`, `answers-fit`.
 use mathlib.Core.Path.{_≡_, refl, ap}
 use mathlib.Core.Bool.{Bool, true, false}
 use mathlib.Core.List.{List, [], _∷_, _++_}

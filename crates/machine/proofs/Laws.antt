@@ -1,6 +1,7 @@
 -- What holds of every cycle: a refused one changes nothing (`refused-unchanged`), one that only waits keeps its word (`wait-changes`), an
 -- accepted one completes or waits (`completes-or-waits`, `waiting-completes`) and leaves a machine that may start (`accepted-may-start`), and
 -- what IEN and SRE keep (`ien-high-keeps`, `status-kept`); and that no two outcomes satisfy a call's statement.
+-- Further laws, in this order: `refused-numbered`, `completes-its-own`, `cycle-unique`, `may-start-unique`.
 use mathlib.Core.Path.{_≡_, refl, _∙_, sym, ap}
 use mathlib.Core.Bool.{Bool, true, false}
 use mathlib.Core.Option.{some, Option·some-injective, Option·some-ne-none}

@@ -1,4 +1,5 @@
 -- A step's ways out: RAM in place and the core are the registers of the definition; and a step has one outcome.
+-- The laws, in this order: `step-unique`, `core-of-unique`, `machine-from-unique`.
 use mathlib.Core.Path.{_≡_, refl, _∙_, sym, ap, subst}
 use mathlib.Core.Bool.{Bool, true, false}
 use mathlib.Core.List.{List, [], _∷_}

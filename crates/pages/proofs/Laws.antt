@@ -1,4 +1,5 @@
 -- What is kept of a long input is answered as all of it would be, and a text may come in pieces.
+-- The laws, in this order: `kept-page`, `kept-unpacked`, `gather-pieces`, `named-pieces`.
 use mathlib.Core.Path.{_≡_, refl, sym, ap, _∙_}
 use mathlib.Core.Bool.{Bool, true, false}
 use mathlib.Core.List.{List, [], _∷_, _++_, append-assoc}

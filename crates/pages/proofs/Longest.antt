@@ -1,4 +1,5 @@
 -- No page is longer than the room for it, nor is anything that is said.
+-- The laws, in this order: `text-fits`, `page-text-fits`, `page-said-fits`, `unpacked-said-fits`, `piece-said-fits`, `packed-said-fits`.
 use mathlib.Core.Path.{_≡_, refl, sym, ap, _∙_}
 use mathlib.Core.Bool.{Bool, true, false}
 use mathlib.Core.Option.{Option, none, some}

@@ -1,4 +1,6 @@
 -- What holds of the plans of all instructions of the list: one test over the fields of each family, and what it says.
+-- The laws, in this order: `immediate-agrees`, `ram-agrees`, `acc-agrees`, `bit-agrees`, `merge-goes-back`, `merge-from`, `bit-from`,
+-- `word-immediate`, `word-mode`, `plan-for-unique`, `names-immediate-unique`.
 use Prim.{Unit}
 use mathlib.Core.Path.{_≡_, _∙_, sym, ap}
 use mathlib.Core.Bool.{Bool, true, false}

@@ -1,5 +1,6 @@
 -- What 8 and 9 mean by the plan: of a named instruction of the list, `eight-planned` and `nine-planned`; of a word that a family takes,
 -- `word-eight-planned` and `word-nine-planned`. So the rules of isa's table are those that document 01 tells.
+-- A further law: `never-acc-twice`.
 use mathlib.Core.Path.{_≡_, refl, _∙_, sym, ap}
 use mathlib.Core.Bool.{true, false}
 use mathlib.Core.Logic.{_↔_}

@@ -1,4 +1,5 @@
 -- The mirror: its bits, its mirror, and that CRCR is CRCF in it.
+-- The laws, in this order: `mirror-bit`, `mirror-again`.
 use mathlib.Core.Path.{_≡_, refl, sym, ap, ap₂, subst, _∙_}
 use mathlib.Core.Logic.{⊎-elim}
 use Prim.Native.Nat.{ℕ, zero, suc, _+_, _-_, _*_, _/_, _%_, _^_, _<_, _≤_}

@@ -1,4 +1,5 @@
 -- Multiples of a divisor of degree 16, and that no two numbers are its remainder.
+-- The law: `one-remainder`.
 use mathlib.Core.Path.{_≡_, refl, sym, ap, ap₂, _∙_}
 use mathlib.Core.Bool.{Bool, true, false}
 use mathlib.Core.List.{List, [], _∷_, _++_}

@@ -1,5 +1,6 @@
 -- The premises can be met: every message has its cycles, and every machine of 16-bit words with nothing waiting is ready, with what it has as start
 -- and polynomial.
+-- The laws, in this order: `every-message`, `words-are`, `every-machine`.
 use mathlib.Core.Path.{_≡_, refl, sym}
 use mathlib.Core.Bool.{Bool, true, false}
 use mathlib.Core.List.{List, [], _∷_}

@@ -1,4 +1,5 @@
 -- Runs put together: over appended cycles, and with a longer budget.
+-- The laws, in this order: `run-append`, `run-longer`, `longer-begins`.
 use mathlib.Core.Path.{_≡_, refl, ap, _∙_}
 use mathlib.Core.List.{List, [], _∷_, _++_}
 use mathlib.Core.Option.{Option, none, some}

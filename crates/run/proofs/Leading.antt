@@ -1,5 +1,6 @@
 -- Cycles that are all accepted, as runs: with enough budget a run over them is done and ends where they lead; and the words of some cycles
 -- are split into those cycles.
+-- The laws, in this order: `leads-run`, `words-split`, `leads-answer`.
 use mathlib.Core.Path.{_≡_, refl, ap, _∙_}
 use mathlib.Core.List.{List, [], _∷_}
 use Prim.Native.Nat.{ℕ, zero, suc, _+_, _*_, _≤_}

@@ -1,4 +1,5 @@
 -- The refusals of a whole run: what holds where none is given, each number exactly when, and what then becomes of the run.
+-- The laws, in this order: `clear-start`, `start-one`, `start-two`, `start-three`, `start-four`.
 use mathlib.Core.Path.{_≡_}
 use mathlib.Core.Bool.{Bool, true, false, not}
 use mathlib.Core.List.{List, [], _∷_}

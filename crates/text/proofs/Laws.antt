@@ -1,4 +1,5 @@
 -- Each call's outcome is determined by its statement, and a text may come in pieces.
+-- The laws, in this order: `start-unique`, `take-unique`, `take-some`, `left-some`, `in-pieces`, `two-calls`.
 use mathlib.Core.Path.{_≡_, refl, sym, ap, _∙_}
 use mathlib.Core.List.{List, [], _∷_, _++_}
 use Prim.Native.Nat.{ℕ, suc, _+_, _-_, _≤_, _<_}

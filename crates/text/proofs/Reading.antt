@@ -1,4 +1,5 @@
 -- What a text of whole lines is read as: digit by digit, word by word, line by line.
+-- The laws, in this order: `word-read`, `blank-read`, `feed-read`.
 use mathlib.Core.Path.{_≡_, refl, sym, ap, _∙_}
 use mathlib.Core.Bool.{Bool, true, false}
 use mathlib.Core.List.{List, _∷_}

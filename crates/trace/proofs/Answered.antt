@@ -1,4 +1,5 @@
 -- The ways out of the reader and the writer, and what an accepted answer says.
+-- The laws, in this order: `write-says`, `read-says`.
 use mathlib.Core.Path.{_≡_, sym, ap, _∙_}
 use mathlib.Core.Bool.{not}
 use mathlib.Core.List.{List, [], _∷_, _++_}

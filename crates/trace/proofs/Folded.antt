@@ -1,4 +1,5 @@
 -- The check, which is defined by the machine's CRCF, is the fold of the alu's CRC step over the bits.
+-- The laws, in this order: `crc-accepted`, `check-fold`, `check-lt`, `check-vector`.
 use mathlib.Core.Path.{_≡_, refl, ap, _∙_}
 use mathlib.Core.List.{List, [], _∷_}
 use Prim.Native.Nat.{ℕ, zero, suc, _*_, _%_, _^_, _<_}

@@ -1,5 +1,6 @@
 -- A pass over a byte: eight steps of the fold in one expression. Steps are linear, so a register and a byte fall into three parts, each of 256
 -- values, which are computed.
+-- The law: `pass-is`.
 use mathlib.Core.Path.{_≡_, refl, sym, ap, ap₂, _∙_}
 use Prim.Native.Nat.{ℕ, zero, suc, _*_, _/_, _%_, _^_, _<_}
 use native.Mathlib.Omega.{arith}

@@ -1,4 +1,5 @@
 -- The two round trips: what the writer makes the reader gives back, and what the reader accepts the writer makes again.
+-- The laws, in this order: `read-made`, `made-read`, `three-words`, `four-words`, `written-read`, `read-written`.
 use mathlib.Core.Path.{_≡_, refl, sym, ap, subst, _∙_}
 use mathlib.Core.List.{List, _++_}
 use Prim.Native.Nat.{ℕ, _*_, _/_, _%_, _≤_, _<_}
