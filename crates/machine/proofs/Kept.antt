@@ -1,6 +1,6 @@
 -- What a cycle keeps. About a word with the byte mark: every upper byte (`byte-keeps-ram`, `byte-keeps-acc`). About Test and NOOP: every
 -- register but D, which DLE may latch (`family-test`, `family-noop`).
-use mathlib.Core.Path.{_≡_, refl, _∙_, sym, ap}
+use mathlib.Core.Path.{_≡_, refl, _∙_, sym, ap, subst⁻¹}
 use mathlib.Core.Bool.{Bool, true, false}
 use mathlib.Core.List.{List, map}
 use Prim.Native.Nat.{ℕ, _+_, _%_, _^_}
@@ -84,25 +84,25 @@ module _ (m : Machine) (c : Words) (mark : markOf (instructionWord m c) ≡ 0) w
   unfolding planOf
   byte = ap modeOf mark
 
-  pub byte-keeps-ram : map upperByte (cycleOf m c .machine .registers .ram) ≡ map upperByte (m .registers .ram)
-  byte-keeps-ram = every-way m c (λ (t : Turned). map upperByte (t .machine .registers .ram) ≡ map upperByte (m .registers .ram)) (record {
-    refuses = λ k n. refl;
-    waits = λ x i. refl;
+  abbrev KeepsUpper : Registers → Type 0
+  KeepsUpper r = (map upperByte (r .ram) ≡ map upperByte (m .registers .ram)) × (upperByte (r .acc) ≡ upperByte (m .registers .acc))
+
+  byte-keeps : KeepsUpper (cycleOf m c .machine .registers)
+  byte-keeps = every-way m c (λ (t : Turned). KeepsUpper (t .machine .registers)) (record {
+    refuses = λ k n. (refl, refl);
+    waits = λ x i. (refl, refl);
     performs =
         let p : Plan = planOf (namedBy (instructionWord m c)) in
         let e : Effect = effectFrom p (before m c) (operandWord m c) in
-        ap (λ (d : Mode). map upperByte (settledOf d (p .register) (before m c) e (c .pins) .ram)) byte ∙ settled-ram (p .register) (before m c) e (c .pins);
+        subst⁻¹ (λ (d : Mode). KeepsUpper (settledOf d (p .register) (before m c) e (c .pins))) byte
+        (settled-ram (p .register) (before m c) e (c .pins), settled-acc (p .register) (before m c) e (c .pins));
   })
 
+  pub byte-keeps-ram : map upperByte (cycleOf m c .machine .registers .ram) ≡ map upperByte (m .registers .ram)
+  byte-keeps-ram = byte-keeps .0
+
   pub byte-keeps-acc : upperByte (cycleOf m c .machine .registers .acc) ≡ upperByte (m .registers .acc)
-  byte-keeps-acc = every-way m c (λ (t : Turned). upperByte (t .machine .registers .acc) ≡ upperByte (m .registers .acc)) (record {
-    refuses = λ k n. refl;
-    waits = λ x i. refl;
-    performs =
-        let p : Plan = planOf (namedBy (instructionWord m c)) in
-        let e : Effect = effectFrom p (before m c) (operandWord m c) in
-        ap (λ (d : Mode). upperByte (settledOf d (p .register) (before m c) e (c .pins) .acc)) byte ∙ settled-acc (p .register) (before m c) e (c .pins);
-  })
+  byte-keeps-acc = byte-keeps .1
 
 -- a word of a family without an I operand takes none
 module _ (f : Family) (w : ℕ) (h : InFamily f w) where
