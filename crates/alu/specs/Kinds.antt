@@ -57,7 +57,7 @@ kindOf (Prioritize source mask) = Plain
 kindOf (CrcForward register acc) = Moved
 kindOf (CrcReverse register acc) = Moved
 
--- what a kind leaves as it was, or at its rule
+-- whether LINK stays, C and OVR become 0, and N is the top bit of the result (document 01, what the instructions do)
 abbrev pub keepsLink : Kind → Bool
 keepsLink Sum = true
 keepsLink Plain = true

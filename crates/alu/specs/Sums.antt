@@ -1,4 +1,4 @@
--- For laws: sums and differences in the terms of whole numbers, and which operations are such.
+-- For laws: sums and differences in the terms of whole numbers, and which operations are such (document 01, what the instructions do).
 use mathlib.Core.Path.{_≡_}
 use mathlib.Core.Logic.{_↔_}
 use Prim.Native.Nat.{ℕ, _+_, _-_, _*_, _^_, _≤_, _<_}

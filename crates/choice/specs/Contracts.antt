@@ -3,7 +3,7 @@
 use mathlib.Core.Path.{_≡_}
 use Prim.{Unit}
 
--- a contract asks nothing of a caller, and what the caller learns is a statement
+-- a contract asks nothing of a caller, and what the caller learns is just the statement; κs are the lifetimes of a call's lent arguments
 abbrev pub States : {K : Type 0} {A R B : K → Type 0} → ((κs : K) → A κs → Type 0) → ((κs : K) → A κs → R κs → B κs → Type 0)
     → ((κs : K) → A κs → R κs → B κs → Type 0) → Type 1
 States {K} {A} {R} {B} asked learnt statement =

@@ -23,7 +23,7 @@ use Rattle.machine.specs.declared.Machine.{Machine}
 use Rattle.machine.specs.declared.Words.{Words}
 use Rattle.machine.specs.declared.Report.{Report}
 use Rattle.machine.specs.Judging.{Refuse, Wait, checksOf, wordAbout, acceptedAs, perform, judgementOf}
-use Rattle.machine.specs.Settling.{latched}
+use Rattle.machine.specs.Settling.{latched, UpperBytesKept}
 use Rattle.machine.specs.Cycles.{Turned, turnOf, cycleOf, completions}
 use Rattle.run.specs.declared.Ran.{Ran}
 use Rattle.run.specs.Splitting.{cycleAt, cyclesFrom, cyclesIn, cyclesOf, wordsPerReport, reportWords}
@@ -32,7 +32,7 @@ use Rattle.run.specs.Runs.{startChecks, startRefusal, runOf, Summary, placed, s
 use Rattle.run.proofs.Starting.{started, refused-whole}
 use Rattle.run.proofs.Courses.{steps-le, reports-length}
 use Rattle.run.proofs.Laws.{ending-one}
-use Rattle.demands.specs.Isolation.{SameLowBytes, UpperBytesKept, ByteMark, CyclesAlike, waitingBefore, Reached, Premises, StricterPremises, Isolated}
+use Rattle.demands.specs.Isolation.{SameLowBytes, ByteMark, CyclesAlike, waitingBefore, Reached, Premises, StricterPremises, Isolated}
 use Rattle.demands.proofs.Turns.{TurnsAlike, turns-alike, unchanged}
 
 kept-after : (a b c : Registers) → UpperBytesKept a b → UpperBytesKept b c → UpperBytesKept a c
@@ -88,7 +88,7 @@ module _ (m n : Machine) (c d : Course) (a : CoursesAlike m n c d) where
   same-ending = ap₂ placed (a .close) same-length
 
 -- a cycle whose checks are clear is a step
-pub turn-steps : (m : Machine) (c : Words) (rest : Course) → refusal (checksOf (m .registers .waiting) c) ≡ 0
+turn-steps : (m : Machine) (c : Words) (rest : Course) → refusal (checksOf (m .registers .waiting) c) ≡ 0
     → 0 < length (turnThen (cycleOf m c .answer) (cycleOf m c .machine) rest .steps)
 unfolding cycleOf judgementOf
 turn-steps m c rest e = by-test (eqb (refusal (checksOf (m .registers .waiting) c)) 0) (eq-eqb (refusal (checksOf (m .registers .waiting) c)) 0 e) (m .registers .waiting)

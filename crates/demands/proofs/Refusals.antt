@@ -39,11 +39,11 @@ use Rattle.run.specs.declared.Ending.{Ending}
 use Rattle.run.specs.declared.Ending.the-variants.{Done, Stopped}
 use Rattle.run.specs.declared.Ran.{Ran}
 use Rattle.run.specs.Splitting.{cycleAt, wordsPerCycle, cyclesIn, wordsPerReport}
-use Rattle.run.specs.Runs.{mostCycles, startRefusal, endingTells}
+use Rattle.run.specs.Runs.{mostCycles, endingTells}
 use Rattle.run.proofs.Starting.{may-begin}
-use Rattle.run.specs.Following.{machineAt, turnAt, Ends, CycleByCycle, CycleRefused}
-use Rattle.run.proofs.Laws.{cycle-by-cycle, returned, may-go-on}
-use Rattle.demands.specs.Calls.{Filling, Decodes, Encodes, RunInput, Runs, Cycles, ReadsTrace, WritesTrace, StepsMachine}
+use Rattle.run.specs.Following.{machineAt, turnAt, Ends, CycleRefused}
+use Rattle.run.proofs.Laws.{may-go-on}
+use Rattle.demands.specs.Calls.{Filling, Decodes, Encodes, RunInput, wholeNumber, Runs, Cycles, ReadsTrace, WritesTrace, StepsMachine}
 use Rattle.trace.specs.declared.Filled.{Filled}
 use Rattle.trace.specs.Layout.{wordsPerRecord}
 use Rattle.trace.specs.Answers.{filledTells, leaves, Fills}
@@ -51,6 +51,7 @@ use Rattle.trace.specs.Writing.{writeChecks}
 use Rattle.trace.proofs.Unique.{filled-one}
 use Rattle.trace.specs.Refusing.{Refuses}
 use Rattle.trace.proofs.Exactly.{read-refuses, write-refuses}
+use Rattle.demands.proofs.Following.{follows, gives-back}
 
 -- reader and writer: an answer is a refusal exactly when the definition's is, and lent output is then as it was
 module _ (answer : Placed ℕ) (made before : List ℕ) (r : Filled) (after : List ℕ) (f : Fills answer made r before after) (k i : ℕ) where
@@ -97,25 +98,18 @@ module _ (i : RunInput) (o : Filling Ran) (p : Runs i o) where
   abbrev words : List ℕ
   words = i .words
 
-  -- what the checks of the whole run give
-  abbrev whole : ℕ
-  whole = startRefusal m words (length (i .reports))
-
-  whole-small : whole ≤ 4
+  whole-small : wholeNumber i ≤ 4
   whole-small =
       start-small (not (eqb (length words % wordsPerCycle) 0)) (ltb mostCycles (cyclesIn (length words)))
       (ltb (length (i .reports)) (wordsPerReport * cyclesIn (length words))) (not (mayStart (m .registers .waiting)))
 
-  by-cycles : whole ≡ 0 → CycleByCycle m words (i .budget) (o .answer) (i .reports) (o .after)
-  by-cycles = cycle-by-cycle m words (i .budget) (i .reports) (o .answer) (o .after) p
-
   -- a run that is refused as a whole ends so; a started one ends at a refused cycle, which from a machine that may start has 5 to 10
-  whole-ends : (whole ≡ 0 → ⊥) → o .answer .ending ≡ Ending.Refused whole 0
-  whole-ends n = returned m words (i .budget) (i .reports) (o .answer) (o .after) p n .ending
+  whole-ends : (wholeNumber i ≡ 0 → ⊥) → o .answer .ending ≡ Ending.Refused (wholeNumber i) 0
+  whole-ends n = gives-back i o p n .ending
 
-  cycle-ends : whole ≡ 0 → (k j : ℕ) → o .answer .ending ≡ Ending.Refused k j → CycleRefused m words (i .budget) k j
+  cycle-ends : wholeNumber i ≡ 0 → (k j : ℕ) → o .answer .ending ≡ Ending.Refused k j → CycleRefused m words (i .budget) k j
   cycle-ends z k j e =
-      let f = by-cycles z in
+      let f = follows i o p z in
       let ends = subst (Ends m words (cyclesIn (length words)) (i .budget) (o .answer .accepted)) e (f .ends) in
       let at : j ≡ o .answer .accepted = ends .0 in
       record {
@@ -125,7 +119,7 @@ module _ (i : RunInput) (o : Filling Ran) (p : Runs i o) where
         here = subst (λ (l : ℕ). turnAt m words l .answer ≡ refused k) (sym at) (ends .3);
       }
 
-  cycle-range : whole ≡ 0 → (k j : ℕ) → CycleRefused m words (i .budget) k j → (5 ≤ k) × (k ≤ 10)
+  cycle-range : wholeNumber i ≡ 0 → (k j : ℕ) → CycleRefused m words (i .budget) k j → (5 ≤ k) × (k ≤ 10)
   cycle-range z k j c =
       let machine : Machine = machineAt m words j in
       started-range (machine .registers .waiting) (cycleAt words j) k
@@ -134,36 +128,36 @@ module _ (i : RunInput) (o : Filling Ran) (p : Runs i o) where
       (refused-numbered machine (cycleAt words j) k (c .here))
 
   -- so a refusal is the whole run's, or that of a cycle
-  by-start : (k j : ℕ) → o .answer .ending ≡ Ending.Refused k j → ((1 ≤ k) × (whole ≡ k) × (j ≡ 0)) ⊎ ((whole ≡ 0) × CycleRefused m words (i .budget) k j)
-  by-start k j e = by-test (eqb whole 0) refl
+  by-start : (k j : ℕ) → o .answer .ending ≡ Ending.Refused k j → ((1 ≤ k) × (wholeNumber i ≡ k) × (j ≡ 0)) ⊎ ((wholeNumber i ≡ 0) × CycleRefused m words (i .budget) k j)
+  by-start k j e = by-test (eqb (wholeNumber i) 0) refl
     where
-      by-test : (b : Bool) → eqb whole 0 ≡ b → ((1 ≤ k) × (whole ≡ k) × (j ≡ 0)) ⊎ ((whole ≡ 0) × CycleRefused m words (i .budget) k j)
-      by-test true q = let z = eqb-true whole 0 q in inr (z, cycle-ends z k j e)
+      by-test : (b : Bool) → eqb (wholeNumber i) 0 ≡ b → ((1 ≤ k) × (wholeNumber i ≡ k) × (j ≡ 0)) ⊎ ((wholeNumber i ≡ 0) × CycleRefused m words (i .budget) k j)
+      by-test true q = let z = eqb-true (wholeNumber i) 0 q in inr (z, cycle-ends z k j e)
       by-test false q =
-          let n = eqb-false whole 0 q in
-          let same = refused-at-one whole k 0 j (ap endingTells (sym (whole-ends n) ∙ e)) in
+          let n = eqb-false (wholeNumber i) 0 q in
+          let same = refused-at-one (wholeNumber i) k 0 j (ap endingTells (sym (whole-ends n) ∙ e)) in
           inl (omega (arith, n, same .0), same .0, sym (same .1))
 
   -- 1 to 4: the checks of the whole run give the number; the index is 0
-  pub run-refused-exactly : (k j : ℕ) → 1 ≤ k → k ≤ 4 → (o .answer .ending ≡ Ending.Refused k j) ↔ ((whole ≡ k) × (j ≡ 0))
+  pub run-refused-exactly : (k j : ℕ) → 1 ≤ k → k ≤ 4 → (o .answer .ending ≡ Ending.Refused k j) ↔ ((wholeNumber i ≡ k) × (j ≡ 0))
   run-refused-exactly k j lo hi = ((λ e. ⊎-elim (λ h. (h .1, h .2)) (λ h. absurd (omega (arith, hi, cycle-range (h .0) k j (h .1) .0))) (by-start k j e)), back)
     where
-      back : (whole ≡ k) × (j ≡ 0) → o .answer .ending ≡ Ending.Refused k j
+      back : (wholeNumber i ≡ k) × (j ≡ 0) → o .answer .ending ≡ Ending.Refused k j
       back h = whole-ends (λ z. omega (arith, z, h .0, lo)) ∙ ap₂ Ending.Refused (h .0) (sym (h .1))
 
   -- 5 to 10: the run is started, and cycle j is refused, all before it being accepted and the budget reaching it
-  pub cycle-refused-exactly : (k j : ℕ) → 5 ≤ k → k ≤ 10 → (o .answer .ending ≡ Ending.Refused k j) ↔ ((whole ≡ 0) × CycleRefused m words (i .budget) k j)
+  pub cycle-refused-exactly : (k j : ℕ) → 5 ≤ k → k ≤ 10 → (o .answer .ending ≡ Ending.Refused k j) ↔ ((wholeNumber i ≡ 0) × CycleRefused m words (i .budget) k j)
   cycle-refused-exactly k j lo hi =
-      ((λ e. ⊎-elim (λ h. absurd (omega (arith, lo, h .1, whole-small))) (λ h. h) (by-start k j e)), (λ h. by-ending (h .0) (h .1) (o .answer .ending) (by-cycles (h .0) .ends)))
+      ((λ e. ⊎-elim (λ h. absurd (omega (arith, lo, h .1, whole-small))) (λ h. h) (by-start k j e)), (λ h. by-ending (h .0) (h .1) (o .answer .ending) (follows i o p (h .0) .ends)))
     where
       -- cycle j is not accepted
-      not-past : whole ≡ 0 → CycleRefused m words (i .budget) k j → j < o .answer .accepted → ⊥
+      not-past : wholeNumber i ≡ 0 → CycleRefused m words (i .budget) k j → j < o .answer .accepted → ⊥
       not-past z c h =
-          let accepted : k ≡ 0 = sym (ap (λ (t : Tells Report). t .number) (c .here)) ∙ by-cycles z .accepted j h in
+          let accepted : k ≡ 0 = sym (ap (λ (t : Tells Report). t .number) (c .here)) ∙ follows i o p z .accepted j h in
           omega (arith, lo, accepted)
 
-      by-ending : whole ≡ 0 → CycleRefused m words (i .budget) k j → (x : Ending) → Ends m words (cyclesIn (length words)) (i .budget) (o .answer .accepted) x → x ≡ Ending.Refused k j
-      by-ending z c Done h = absurd (not-past z c (omega (arith, h, c .given)))
+      by-ending : wholeNumber i ≡ 0 → CycleRefused m words (i .budget) k j → (x : Ending) → Ends m words (cyclesIn (length words)) (i .budget) (o .answer .accepted) x → x ≡ Ending.Refused k j
+      by-ending z c Done h = absurd (not-past z c (omega (arith, h .0, c .given)))
       by-ending z c Stopped h = absurd (not-past z c (omega (arith, h .0, c .paid)))
       by-ending z c (Ending.Refused l a) h = by-place (ltb (o .answer .accepted) j) (ltb j (o .answer .accepted)) refl refl
         where
@@ -182,8 +176,8 @@ module _ (i : RunInput) (o : Filling Ran) (p : Runs i o) where
   run-numbers k j e =
       ⊎-elim (λ h. (h .0, omega (arith, h .1, whole-small))) (λ h. let r = cycle-range (h .0) k j (h .1) in (omega (arith, r .0), r .1)) (by-start k j e)
 
-  pub started-never-four : whole ≡ 0 → (j : ℕ) → o .answer .ending ≡ Ending.Refused 4 j → ⊥
-  started-never-four z j e = omega (arith, cycle-range z 4 j (cycle-ends z 4 j e) .0)
+  pub started-never-four : wholeNumber i ≡ 0 → (j : ℕ) → o .answer .ending ≡ Ending.Refused 4 j → ⊥
+  started-never-four z j e = let four = run-refused-exactly 4 j (omega arith) (omega arith) .0 e in omega (arith, z, four .0)
 
 -- a refused cycle, alone, gives the machine back
 pub cycle-refused-leaves : (m : Machine) (c : Words) (t : Turn) → Cycles (m, c) t → (k : ℕ) → t .answer ≡ Answer.Refused k → t .machine ≡ m

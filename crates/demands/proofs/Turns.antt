@@ -30,10 +30,10 @@ use Rattle.machine.specs.Pins.{ienHigh, dleHigh}
 use Rattle.machine.specs.Judging.{Refuse, Wait, beginChecks, checksOf, wordAbout, acceptedAs, perform, judgementOf}
 use Rattle.machine.specs.Seeing.{viewOf}
 use Rattle.machine.specs.Acting.{effectOf}
-use Rattle.machine.specs.Settling.{latched, ramAfter, accAfter, settledOf}
+use Rattle.machine.specs.Settling.{latched, ramAfter, accAfter, settledOf, UpperBytesKept}
 use Rattle.machine.specs.Cycles.{Turned, turnFrom, performedTurn, turnOf, cycleOf}
 use Rattle.machine.proofs.Kept.{settled-ram, settled-acc}
-use Rattle.demands.specs.Isolation.{lowByte, SameLowBytes, UpperBytesKept, ByteMark, LinesAlike, CyclesAlike}
+use Rattle.demands.specs.Isolation.{lowByte, SameLowBytes, ByteMark, LinesAlike, CyclesAlike}
 
 -- what a byte write leaves in low bytes
 map-set : (f : ℕ → ℕ) (l : List ℕ) (i x : ℕ) → map f (set l i x) ≡ set (map f l) i (f x)

@@ -28,10 +28,10 @@ use Rattle.run.specs.declared.Ending.the-variants.{Done}
 use Rattle.run.specs.declared.Ran.{Ran}
 use Rattle.run.specs.Splitting.{cyclesOf}
 use Rattle.run.specs.Courses.{Finish, done, Course, closing, turnThen, runFrom, reportsOf}
-use Rattle.run.specs.Runs.{startRefusal, runOf, zeroMachine, Summary, placed, summaryOf, endingTells, ranTells}
+use Rattle.run.specs.Runs.{startRefusal, runOf, zeroMachine, Summary, placed, summaryOf, endingTells, ranTells, endingOf}
 use Rattle.run.proofs.Laws.{ending-one}
 use Rattle.demands.specs.Calls.{RunInput}
-use Rattle.demands.specs.Wrong.{Emulator, Faithful, RefusesEverything, FixedAnswer, NeverChanges, CopiesFirst, InventsCounts, CountsEveryCycle, courseOf, endingOf, right}
+use Rattle.demands.specs.Wrong.{Emulator, Faithful, RefusesEverything, FixedAnswer, NeverChanges, CopiesFirst, InventsCounts, CountsEveryCycle, courseFor, right}
 
 -- a course closes with a refusal, or is done or stopped
 abbrev Closed : Tells Finish → Type 0
@@ -50,7 +50,7 @@ cycles-closed m (suc budget) (c ∷ cycles) =
     turn-closed (cycleOf m c .answer) (cycleOf m c .answer .value) (cycleOf m c .machine) (runFrom (cycleOf m c .machine) budget cycles)
     (cycles-closed (cycleOf m c .machine) budget cycles)
 
-run-closed : (i : RunInput) → Closed (courseOf i .close)
+run-closed : (i : RunInput) → Closed (courseFor i .close)
 unfolding runOf
 run-closed i = by-test (eqb (startRefusal (i .machine) (i .words) (length (i .reports))) 0)
   where
@@ -62,8 +62,8 @@ run-closed i = by-test (eqb (startRefusal (i .machine) (i .words) (length (i .re
 pub right-faithful : Faithful right
 right-faithful i = record {
   answer =
-      let s : Summary = summaryOf (i .machine) (courseOf i) in
-      ap (λ (e : Placed Finish). record { machine = s .machine; ending = e; accepted = s .accepted; completed = s .completed }) (run-closed i (length (courseOf i .steps)));
+      let s : Summary = summaryOf (i .machine) (courseFor i) in
+      ap (λ (e : Placed Finish). record { machine = s .machine; ending = e; accepted = s .accepted; completed = s .completed }) (run-closed i (length (courseFor i .steps)));
   written = refl;
 }
 
@@ -88,7 +88,7 @@ abbrev begun : RunInput
 begun = on (0xF8E1 ∷ 0 ∷ 0 ∷ [])
 
 abbrev toldOf : RunInput → Summary
-toldOf i = summaryOf (i .machine) (courseOf i)
+toldOf i = summaryOf (i .machine) (courseFor i)
 
 -- what these runs come to, by computation
 nothing-done : toldOf nothing .ending ≡ acceptedWhole done
@@ -115,7 +115,7 @@ both-accepted : toldOf both .accepted ≡ 2
 unfolding complement writeBack flagged withSign plus oneOperand outcomeOf decodeOf takesImmediate workOf planOf judgementOf mayStart viewOf outcomeFor effectOf settledOf conditionOf cycleOf runFrom runOf
 both-accepted = refl
 
-both-reports : reportsOf (courseOf both .steps) ≡ 0 ∷ 0 ∷ 0 ∷ 16 ∷ 1 ∷ 0xFFFF ∷ 0 ∷ 16 ∷ []
+both-reports : reportsOf (courseFor both .steps) ≡ 0 ∷ 0 ∷ 0 ∷ 16 ∷ 1 ∷ 0xFFFF ∷ 0 ∷ 16 ∷ []
 unfolding complement writeBack flagged withSign plus oneOperand outcomeOf decodeOf takesImmediate workOf planOf judgementOf mayStart viewOf outcomeFor effectOf settledOf conditionOf cycleOf runFrom runOf
 both-reports = refl
 

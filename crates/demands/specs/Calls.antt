@@ -38,7 +38,7 @@ use Rattle.machine.specs.Cycles.{turnTells, cycleOf}
 use Rattle.machine.specs.Stepping.{coreOf, machineFrom, Steps}
 use Rattle.run.specs.declared.Ending.{Ending}
 use Rattle.run.specs.declared.Ran.{Ran}
-use Rattle.run.specs.Runs.{runOf, zeroMachine, fullBudget, Gives}
+use Rattle.run.specs.Runs.{startRefusal, runOf, zeroMachine, fullBudget, Gives}
 use Rattle.trace.specs.declared.Filled.{Filled}
 use Rattle.trace.specs.Check.{checkOf}
 use Rattle.trace.specs.Layout.{wordsPerRecord}
@@ -142,6 +142,10 @@ pub record RunInput : Type 0 where
   pub words : List ℕ
   pub budget : ℕ
   pub reports : List ℕ
+
+-- what the checks of the whole run give
+abbrev pub wholeNumber : RunInput → ℕ
+wholeNumber i = startRefusal (i .machine) (i .words) (length (i .reports))
 
 abbrev pub Runs : RunInput → Filling Ran → Type 0
 Runs i o = Gives (i .machine) (runOf (i .machine) (i .words) (i .budget) (length (i .reports))) (o .answer) (i .reports) (o .after)

@@ -12,7 +12,7 @@ use Rattle.machine.specs.declared.Registers.{Registers}
 use Rattle.machine.specs.declared.Machine.{Machine}
 use Rattle.machine.specs.declared.Words.{Words}
 use Rattle.machine.specs.Judging.{wordAbout}
-use Rattle.machine.specs.Settling.{upperByte}
+use Rattle.machine.specs.Settling.{UpperBytesKept}
 use Rattle.run.specs.declared.Ran.{Ran}
 use Rattle.run.specs.Splitting.{cycleAt, cyclesIn, wordsPerReport}
 use Rattle.run.specs.Courses.{Course, machineAfter}
@@ -28,11 +28,6 @@ pub record SameLowBytes (a b : Registers) : Type 0 where
   pub latch : lowByte (a .latch) ≡ lowByte (b .latch)
   pub status : a .status ≡ b .status
   pub waiting : a .waiting ≡ b .waiting
-
--- every upper byte of RAM and ACC is what it was at the start
-pub record UpperBytesKept (start end : Registers) : Type 0 where
-  pub ram : map upperByte (end .ram) ≡ map upperByte (start .ram)
-  pub acc : upperByte (end .acc) ≡ upperByte (start .acc)
 
 abbrev pub ByteMark : ℕ → Type 0
 ByteMark w = markOf w ≡ 0

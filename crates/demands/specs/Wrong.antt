@@ -1,16 +1,13 @@
--- Six wrong emulators, each by what it does on every run, and the right one (document 01, what the statements say).
+-- The five wrong emulators that document 01 names (what the statements say), a sixth of ours, and the right one, each by what it does on every run.
 use mathlib.Core.Path.{_≡_}
 use mathlib.Core.List.{_++_}
-use mathlib.Core.Option.{none, some}
 use Prim.Native.Nat.{ℕ, _*_, _<_}
 use lib.ListN.{length, take, drop}
-use Rattle.choice.specs.Tells.{Placed}
-use Rattle.run.specs.declared.Ending.{Ending}
-use Rattle.run.specs.declared.Ending.the-variants.{Done, Stopped, Refused}
+use Rattle.run.specs.declared.Ending.the-variants.{Done, Stopped}
 use Rattle.run.specs.declared.Ran.{Ran}
 use Rattle.run.specs.Splitting.{wordsPerReport}
-use Rattle.run.specs.Courses.{Finish, done, stopped, Course, reportsOf}
-use Rattle.run.specs.Runs.{runOf, Summary, summaryOf}
+use Rattle.run.specs.Courses.{Course, reportsOf}
+use Rattle.run.specs.Runs.{runOf, summaryOf, ranOf}
 use Rattle.demands.specs.Calls.{Filling, RunInput, Runs}
 
 -- what is made of a run, whatever it is
@@ -46,17 +43,11 @@ abbrev pub CountsEveryCycle : Emulator → Type 0
 CountsEveryCycle e = (i : RunInput) → e i .answer .completed ≡ e i .answer .accepted
 
 -- the right one is the definition itself, put into an answer and lent reports
-abbrev pub courseOf : RunInput → Course
-courseOf i = runOf (i .machine) (i .words) (i .budget) (length (i .reports))
-
-abbrev pub endingOf : Placed Finish → Ending
-endingOf p = elim (p .told .value) [ some f ↦ elim f [ done ↦ Done | stopped ↦ Stopped ] | none ↦ Refused (p .told .number) (p .index) ]
-
-abbrev pub ranOf : Summary → Ran
-ranOf s = record { machine = s .machine; ending = endingOf (s .ending); accepted = s .accepted; completed = s .completed }
+abbrev pub courseFor : RunInput → Course
+courseFor i = runOf (i .machine) (i .words) (i .budget) (length (i .reports))
 
 abbrev pub right : Emulator
 right i = record {
-  answer = ranOf (summaryOf (i .machine) (courseOf i));
-  after = reportsOf (courseOf i .steps) ++ drop (length (reportsOf (courseOf i .steps))) (i .reports);
+  answer = ranOf (summaryOf (i .machine) (courseFor i));
+  after = reportsOf (courseFor i .steps) ++ drop (length (reportsOf (courseFor i .steps))) (i .reports);
 }

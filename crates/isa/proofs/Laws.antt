@@ -29,7 +29,7 @@ use Rattle.isa.specs.declared.Encoded.{Encoded}
 use Rattle.isa.specs.Fields.{markOf, quadrantOf, fieldA, fieldB, fieldC, wordOf, modeOf, markFor}
 use Rattle.isa.specs.Table.{rowAt, noRow, numberOf}
 use Rattle.isa.specs.Slots.{takes, rowOf}
-use Rattle.isa.specs.Words.{InFamily, accTwice, bitTooHigh, ruleChecks, wordNumber, wordRow, wordChecks, namedBy, decodeOf, lookupOf, decodedTells, namedRow, namedChecks, wordFor, encodeOf, encodedTells, takesImmediate, Answered}
+use Rattle.isa.specs.Words.{InFamily, Listed, accTwice, bitTooHigh, ruleChecks, wordNumber, wordRow, wordChecks, namedBy, decodeOf, lookupOf, decodedTells, namedRow, namedChecks, wordFor, encodeOf, encodedTells, takesImmediate, Answered}
 use Rattle.isa.specs.Decision.{fillOf}
 use Rattle.isa.proofs.Families.{own-row, own-number, narrow, mark-small}
 use Rattle.isa.proofs.Takes.{small}
@@ -128,9 +128,6 @@ module _ (n : Named) (w : ℕ) (e : encodeOf n ≡ accepted w) where
   -- its family takes its mode and fields, and its rule holds
   pub encode-takes : takes (namedRow n) mark (n .a) (n .b) (n .c) ≡ true
   encode-takes = named-own .fields
-
-  pub encode-rule : refusal (ruleChecks (namedRow n) mark (n .a) (n .b)) ≡ 0
-  encode-rule = named-free .1
 
   pub encode-small : w < 0x10000
   encode-small = subst (λ (w : ℕ). w < 0x10000) (named-told .1) (made-small mark (namedRow n .quadrant) (n .a) (n .b) (n .c) in-range)
@@ -291,7 +288,7 @@ module _ (n : Named) where
 
   -- 8: its family takes them, and its rule about ACC is broken
   pub named-eight : (encodeOf n .number ≡ 8)
-      ↔ ((takes (namedRow n) (markFor (n .mode)) (n .a) (n .b) (n .c) ≡ true) × (accTwice (namedRow n) (n .a) (n .b) ≡ true))
+      ↔ (Listed n × (accTwice (namedRow n) (n .a) (n .b) ≡ true))
   unfolding encodeOf
   named-eight =
       let e = by-eight (not listed) acc bit in
@@ -299,7 +296,7 @@ module _ (n : Named) where
 
   -- 9: its family takes them, the rule about ACC is not broken, and the one about n is
   pub named-nine : (encodeOf n .number ≡ 9)
-      ↔ ((takes (namedRow n) (markFor (n .mode)) (n .a) (n .b) (n .c) ≡ true) × (accTwice (namedRow n) (n .a) (n .b) ≡ false)
+      ↔ (Listed n × (accTwice (namedRow n) (n .a) (n .b) ≡ false)
       × (bitTooHigh (namedRow n) (markFor (n .mode)) (n .a) ≡ true))
   unfolding encodeOf
   named-nine =

@@ -74,6 +74,10 @@ decodedTells (Decoded.Refused k) = refused k
 abbrev pub namedRow : Named → Row
 namedRow n = rowAt (numberOf (n .family))
 
+-- an instruction of the list: its family takes its mode and fields (document 01, the instruction list)
+abbrev pub Listed : Named → Type 0
+Listed n = takes (namedRow n) (markFor (n .mode)) (n .a) (n .b) (n .c) ≡ true
+
 -- 7 for a named instruction: its family does not take its mode and fields
 abbrev pub unlistedNamed : Named → List Check
 unlistedNamed n = check 7 (not (takes (namedRow n) (markFor (n .mode)) (n .a) (n .b) (n .c))) ∷ []
@@ -106,6 +110,6 @@ namesI (some n) = asksI (namedRow n) (n .a) (n .b)
 unfoldable pub takesImmediate : ℕ → Bool
 takesImmediate w = namesI (decodeOf w .value)
 
--- an answer is a value, or a refusal with 7, 8 or 9
+-- for laws: an answer is a value, or a refusal with 7, 8 or 9, which are all that a conversion gives (document 01, the refusal numbers)
 abbrev pub Answered : {A : Type 0} → Tells A → A → Type 0
 Answered t x = (t ≡ accepted x) ⊎ ((t ≡ refused 7) ⊎ ((t ≡ refused 8) ⊎ (t ≡ refused 9)))

@@ -1,4 +1,4 @@
--- For the contracts of private parts alone, those of a line: text put at a place of a longer text that is being made. There is room for it.
+-- For the contracts of private parts alone, those that put text: text put at a place of a longer text that is being made. There is room for it.
 use mathlib.Core.Path.{_≡_}
 use Prim.Native.Nat.{ℕ, _+_}
 use mathlib.Core.List.{List, _++_}

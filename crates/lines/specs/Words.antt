@@ -60,12 +60,12 @@ faultLine f =
     ++ ((32 ∷ 101 ∷ 120 ∷ 112 ∷ 101 ∷ 99 ∷ 116 ∷ 101 ∷ 100 ∷ 32 ∷ [])
     ++ expectedText (f .expected)))))
 
--- the number of the line after n more
+-- for laws: the number of the line after n more
 abbrev pub linesAfter : ℕ → ℕ → ℕ
 linesAfter zero l = l
 linesAfter (suc n) l = linesAfter n (oneMore l)
 
--- what comes of all of it, from the start of a text: every word found, in its place, and no fault
+-- for a law: what comes of all of it, from the start of a text: every word found, in its place, and no fault
 abbrev pub allRead : List ℕ → List ℕ → Took
 allRead all words =
     stopsAt (reader (linesAfter (length all / wordsPerLine) 1) 1 0 Between (length all) 0) (5 * wordsPerLine * (length all / wordsPerLine)) TextEnd (all ++ drop (length all) words)

@@ -62,6 +62,7 @@ trimmed (b ∷ bs) = pick (isBlank b) bs (b ∷ bs)
 unfoldable pub normal : List ℕ → List ℕ
 normal line = trimmed (squeezed line)
 
+-- for laws: not empty
 abbrev pub full : List ℕ → Bool
 full [] = false
 full (b ∷ bs) = true

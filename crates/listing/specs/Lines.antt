@@ -95,7 +95,7 @@ pastOf line = suc (length line)
 unfoldable pub wordOf : List ℕ → Placed ℕ
 wordOf line = wordFrom (pastOf line) (itemsOf line)
 
--- a field of a set's value: written, by a text that is found again; or not, and the value is the only one
+-- for laws, a value of a field with set s: where the field is written, it has a text exactly when the set has it; where not, the set has one value alone
 pub data Writes (s : ℕ) (p : Place) (v : ℕ) : Type 0 where
   shown : written p ≡ true → full (textOf p v) ≡ has s v → Writes s p v
   left : written p ≡ false → has s v ≡ eqb v (onlyOf s) → Writes s p v

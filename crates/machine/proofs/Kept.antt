@@ -1,4 +1,4 @@
--- What a cycle keeps. About a word with the byte mark: every upper byte (`byte-keeps-ram`, `byte-keeps-acc`). About Test and NOOP: every
+-- What a cycle keeps. About a word with the byte mark: every upper byte (`byte-keeps`). About Test and NOOP: every
 -- register but D, which DLE may latch (`family-test`, `family-noop`).
 use mathlib.Core.Path.{_≡_, refl, _∙_, sym, ap, subst⁻¹}
 use mathlib.Core.Bool.{Bool, true, false}
@@ -39,7 +39,7 @@ use Rattle.machine.specs.declared.Effect.{Effect}
 use Rattle.machine.specs.Pins.{ienHigh, bothLow}
 use Rattle.machine.specs.Seeing.{viewOf}
 use Rattle.machine.specs.Acting.{outcomeFor, effectOf}
-use Rattle.machine.specs.Settling.{withWaiting, upperByte, ramAfter, accAfter, settledOf}
+use Rattle.machine.specs.Settling.{withWaiting, upperByte, UpperBytesKept, ramAfter, accAfter, settledOf}
 use Rattle.machine.specs.Judging.{wordAbout}
 use Rattle.machine.specs.Cycles.{Turned, machineOf, effectFrom, cycleOf, before, instructionWord, operandWord}
 use Rattle.machine.proofs.Ways.{every-way}
@@ -84,25 +84,16 @@ module _ (m : Machine) (c : Words) (mark : markOf (instructionWord m c) ≡ 0) w
   unfolding planOf
   byte = ap modeOf mark
 
-  abbrev KeepsUpper : Registers → Type 0
-  KeepsUpper r = (map upperByte (r .ram) ≡ map upperByte (m .registers .ram)) × (upperByte (r .acc) ≡ upperByte (m .registers .acc))
-
-  byte-keeps : KeepsUpper (cycleOf m c .machine .registers)
-  byte-keeps = every-way m c (λ (t : Turned). KeepsUpper (t .machine .registers)) (record {
-    refuses = λ k n. (refl, refl);
-    waits = λ x i. (refl, refl);
-    performs =
+  pub byte-keeps : UpperBytesKept (m .registers) (cycleOf m c .machine .registers)
+  byte-keeps = every-way m c (λ (t : Turned). UpperBytesKept (m .registers) (t .machine .registers)) (record {
+    refuses = λ k n. record { ram = refl; acc = refl };
+    waits = λ x i. record { ram = refl; acc = refl };
+    performs = λ n.
         let p : Plan = planOf (namedBy (instructionWord m c)) in
         let e : Effect = effectFrom p (before m c) (operandWord m c) in
-        subst⁻¹ (λ (d : Mode). KeepsUpper (settledOf d (p .register) (before m c) e (c .pins))) byte
-        (settled-ram (p .register) (before m c) e (c .pins), settled-acc (p .register) (before m c) e (c .pins));
+        subst⁻¹ (λ (d : Mode). UpperBytesKept (m .registers) (settledOf d (p .register) (before m c) e (c .pins))) byte
+        (record { ram = settled-ram (p .register) (before m c) e (c .pins); acc = settled-acc (p .register) (before m c) e (c .pins) });
   })
-
-  pub byte-keeps-ram : map upperByte (cycleOf m c .machine .registers .ram) ≡ map upperByte (m .registers .ram)
-  byte-keeps-ram = byte-keeps .0
-
-  pub byte-keeps-acc : upperByte (cycleOf m c .machine .registers .acc) ≡ upperByte (m .registers .acc)
-  byte-keeps-acc = byte-keeps .1
 
 -- a word of a family without an I operand takes none
 module _ (f : Family) (w : ℕ) (h : InFamily f w) where
@@ -155,7 +146,7 @@ module _ (m : Machine) (c : Words) (rep : Report) (answered : cycleOf m c .answe
     waits = λ x i e.
         let same : w ≡ c .lines = ap (λ (x : Waiting). wordAbout x (c .lines)) x in
         absurd (never (sym (takes-none f w h none) ∙ ap takesImmediate same ∙ i));
-    performs = λ e. ap (λ (g : Family). machineOf (settledAs g)) (family-in f w h);
+    performs = λ n e. ap (λ (g : Family). machineOf (settledAs g)) (family-in f w h);
   }) answered
 
 -- NOOP and Test leave every register as it was, but for D by DLE, and nothing waiting

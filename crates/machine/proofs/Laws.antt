@@ -1,5 +1,5 @@
 -- What holds of every cycle: a refused one changes nothing (`refused-unchanged`), one that only waits keeps its word (`wait-changes`), an
--- accepted one completes or waits (`completes-or-waits`, `waiting-completes`) and leaves a machine that may start (`accepted-may-start`), and
+-- accepted one completes or waits (`completes-or-waits`, `waiting-completes`, `begins-waiting`) and leaves a machine that may start (`accepted-may-start`), and
 -- what IEN and SRE keep (`ien-high-keeps`, `status-kept`); and that no two outcomes satisfy a call's statement.
 -- Further laws, in this order: `refused-numbered`, `completes-its-own`, `cycle-unique`, `may-start-unique`.
 use mathlib.Core.Path.{_≡_, refl, _∙_, sym, ap}
@@ -10,8 +10,9 @@ use native.Mathlib.Omega.{arith}
 use borrow.Author.Tests.{eqb-true, ne-eqb}
 use Rattle.choice.specs.Tells.{Tells, accepted, refused}
 use Rattle.choice.proofs.Picks.{picked, unpicked}
+use Rattle.choice.proofs.Spans.{never}
 use Rattle.choice.proofs.Tells.{accepted-one, refused-one, accepted-refused}
-use Rattle.isa.specs.Words.{namedBy}
+use Rattle.isa.specs.Words.{namedBy, takesImmediate}
 use Rattle.machine.specs.declared.Waiting.{Waiting}
 use Rattle.machine.specs.declared.Waiting.the-variants.{Nothing, Held}
 use Rattle.machine.specs.declared.Machine.{Machine}
@@ -24,7 +25,7 @@ use Rattle.machine.specs.Pins.{ienHigh, bothLow}
 use Rattle.machine.specs.Judging.{wordAbout, waitingWords, mayStart}
 use Rattle.machine.specs.Settling.{withWaiting, settledOf}
 use Rattle.machine.specs.Cycles.{Turned, machineOf, cycleOf, answerTells, turnTells, completions, before, instructionWord}
-use Rattle.machine.proofs.Ways.{every-way}
+use Rattle.machine.proofs.Ways.{held-something, every-way}
 
 -- an answer that is told as a report has that report; a refused one has none
 told : {A : Type 0} (field : Report → A) (x : Report) (r : Report) → accepted x ≡ accepted r → field x ≡ field r
@@ -44,7 +45,7 @@ module _ (m : Machine) (c : Words) where
   refused-unchanged k = every-way m c (λ (t : Turned). t .answer ≡ refused k → t .machine ≡ m) (record {
     refuses = λ j n e. refl;
     waits = λ x i e. absurd (accepted-refused _ k e);
-    performs = λ e. absurd (accepted-refused _ k e);
+    performs = λ h e. absurd (accepted-refused _ k e);
   })
 
   -- a refusal has a number
@@ -52,7 +53,7 @@ module _ (m : Machine) (c : Words) where
   refused-numbered k = every-way m c (λ (t : Turned). t .answer ≡ refused k → k ≡ 0 → ⊥) (record {
     refuses = λ j n e z. n (ap (λ (t : Tells Report). t .number) e ∙ z);
     waits = λ x i e z. accepted-refused _ k e;
-    performs = λ e z. accepted-refused _ k e;
+    performs = λ h e z. accepted-refused _ k e;
   })
 
   -- an answer that has a report is an accepted one
@@ -60,7 +61,7 @@ module _ (m : Machine) (c : Words) where
   reported-accepted r = every-way m c (λ (t : Turned). t .answer .value ≡ some r → t .answer ≡ accepted r) (record {
     refuses = λ k n e. absurd (Option·some-ne-none r (sym e));
     waits = λ x i e. ap accepted (Option·some-injective _ r e);
-    performs = λ e. ap accepted (Option·some-injective _ r e);
+    performs = λ h e. ap accepted (Option·some-injective _ r e);
   })
 
   module _ (r : Report) where
@@ -69,7 +70,7 @@ module _ (m : Machine) (c : Words) where
     wait-changes = every-way m c (λ (t : Turned). t .answer ≡ accepted r → r .completed ≡ NoInstruction → t .machine ≡ machineOf (withWaiting (before m c) (Held (c .lines)))) (record {
       refuses = λ k n e. refused-has-none k r e;
       waits = λ x i e z. refl;
-      performs = λ e z. absurd (completed-differ (told (λ (r : Report). r .completed) _ r e ∙ z));
+      performs = λ h e z. absurd (completed-differ (told (λ (r : Report). r .completed) _ r e ∙ z));
     })
 
     -- an accepted cycle completes an instruction, or leaves a word waiting
@@ -78,31 +79,34 @@ module _ (m : Machine) (c : Words) where
     completes-or-waits = every-way m c (λ (t : Turned). t .answer ≡ accepted r → completions (r .completed) + waitingWords (t .machine .registers .waiting) ≡ 1) (record {
       refuses = λ k n e. refused-has-none k r e;
       waits = λ x i e. sym (told (λ (r : Report). completions (r .completed) + 1) _ r e);
-      performs = λ e. sym (told (λ (r : Report). completions (r .completed) + 0) _ r e);
+      performs = λ h e. sym (told (λ (r : Report). completions (r .completed) + 0) _ r e);
     })
 
-    -- what it completes is the instruction of the word that it is about; with a word waiting it completes that word's
-    pub completes-its-own : cycleOf m c .answer ≡ accepted r
-        → (completions (r .completed) ≡ 1 → r .completed ≡ Instruction (namedBy (instructionWord m c)))
+    -- what it completes is the instruction of the word that it is about
+    pub completes-its-own : cycleOf m c .answer ≡ accepted r → completions (r .completed) ≡ 1 → r .completed ≡ Instruction (namedBy (instructionWord m c))
     completes-its-own = every-way m c (λ (t : Turned). t .answer ≡ accepted r → completions (r .completed) ≡ 1 → r .completed ≡ Instruction (namedBy (instructionWord m c))) (record {
       refuses = λ k n e. refused-has-none k r e;
       waits = λ x i e z.
           let none : _≡_ {A = ℕ} 0 1 = told (λ (r : Report). completions (r .completed)) _ r e ∙ z in
           absurd (omega (arith, none));
-      performs = λ e z. sym (told (λ (r : Report). r .completed) _ r e);
+      performs = λ h e z. sym (told (λ (r : Report). r .completed) _ r e);
     })
 
+    -- with a word waiting, an accepted cycle completes that word's instruction
     pub waiting-completes : (w : ℕ) → m .registers .waiting ≡ Held w → cycleOf m c .answer ≡ accepted r → r .completed ≡ Instruction (namedBy w)
     waiting-completes w h = every-way m c (λ (t : Turned). t .answer ≡ accepted r → r .completed ≡ Instruction (namedBy w)) (record {
       refuses = λ k n e. refused-has-none k r e;
-      waits = λ x i e. absurd (held-something (sym h ∙ x));
-      performs = λ e. sym (told (λ (r : Report). r .completed) _ r e) ∙ ap (λ (x : Waiting). Instruction (namedBy (wordAbout x (c .lines)))) h;
+      waits = λ x i e. absurd (held-something w (sym h ∙ x));
+      performs = λ n e. sym (told (λ (r : Report). r .completed) _ r e) ∙ ap (λ (x : Waiting). Instruction (namedBy (wordAbout x (c .lines)))) h;
     })
-      where
-        held-something : Held w ≡ Nothing → ⊥
-        held-something q =
-            let one : _≡_ {A = ℕ} 1 0 = ap waitingWords q in
-            omega (arith, one)
+
+    -- with nothing waiting, an accepted cycle whose word has an I operand only waits
+    pub begins-waiting : m .registers .waiting ≡ Nothing → takesImmediate (c .lines) ≡ true → cycleOf m c .answer ≡ accepted r → r .completed ≡ NoInstruction
+    begins-waiting none takes = every-way m c (λ (t : Turned). t .answer ≡ accepted r → r .completed ≡ NoInstruction) (record {
+      refuses = λ k n e. refused-has-none k r e;
+      waits = λ x i e. sym (told (λ (r : Report). r .completed) _ r e);
+      performs = λ h e. absurd (never (sym (h none) ∙ takes));
+    })
 
   -- an accepted cycle leaves a machine that may start: a word that is left waiting is one that may wait
   pub accepted-may-start : cycleOf m c .answer .number ≡ 0 → mayStart (cycleOf m c .machine .registers .waiting) ≡ true
@@ -110,7 +114,7 @@ module _ (m : Machine) (c : Words) where
   accepted-may-start = every-way m c (λ (t : Turned). t .answer .number ≡ 0 → mayStart (t .machine .registers .waiting) ≡ true) (record {
     refuses = λ k n e. absurd (n e);
     waits = λ x i e. i;
-    performs = λ e. refl;
+    performs = λ h e. refl;
   })
 
   ien-not-low : ienHigh (c .pins) ≡ true → bothLow (c .pins) ≡ false
@@ -125,7 +129,7 @@ module _ (m : Machine) (c : Words) where
   status-kept h = every-way m c (λ (t : Turned). t .machine .registers .status ≡ m .registers .status) (record {
     refuses = λ k n. refl;
     waits = λ x i. refl;
-    performs = unpicked (bothLow (c .pins)) _ (m .registers .status) h;
+    performs = λ n. unpicked (bothLow (c .pins)) _ (m .registers .status) h;
   })
 
   -- IEN high: no RAM, ACC or status changes
@@ -138,7 +142,7 @@ module _ (m : Machine) (c : Words) where
       let kept : Kept (cycleOf m c) = every-way m c Kept (record {
         refuses = λ k n. (refl, refl);
         waits = λ x i. (refl, refl);
-        performs = (picked (ienHigh (c .pins)) (m .registers .ram) _ h, picked (ienHigh (c .pins)) (m .registers .acc) _ h);
+        performs = λ n. (picked (ienHigh (c .pins)) (m .registers .ram) _ h, picked (ienHigh (c .pins)) (m .registers .acc) _ h);
       }) in
       (kept .0, kept .1, status-kept (ien-not-low h))
 

@@ -123,5 +123,5 @@ module _ (m : Machine) (c : Words) (small : m .registers .status < 256) where
   shown-in-mask rep = every-way m c (λ (t : Turned). t .answer ≡ accepted rep → KnownBits (rep .y) (rep .mask)) (record {
     refuses = λ k n e. absurd (accepted-refused rep k (sym e));
     waits = λ x i e. told rep _ e (known 0 0 (inl refl) zero-le);
-    performs = λ e. told rep _ e (shown-or-not (oeYHigh (c .pins)) _ _ effect-known);
+    performs = λ h e. told rep _ e (shown-or-not (oeYHigh (c .pins)) _ _ effect-known);
   })

@@ -99,7 +99,7 @@ module _ (m : Machine) (c : Words) (rep : Report) (answered : cycleOf m c .answe
         waits = λ x i e.
             let none : _≡_ {A = ℕ} 0 1 = ap (λ (r : Report). completions (r .completed)) (accepted-one _ rep e) ∙ completed in
             absurd (omega (arith, none));
-        performs = λ e.
+        performs = λ h e.
             ap machineOf (writes (p .mode) (p .register) (before m c) (c .pins) low (effectFrom p (before m c) (operandWord m c)));
       }) answered
 

@@ -77,7 +77,7 @@ unfoldable pub mayStart : Waiting → Bool
 mayStart Nothing = true
 mayStart (Held w) = takesImmediate w
 
--- for a law: a number that neither the pins nor IEN give, with nothing waiting; it is decoding's own, 7, 8 or 9
+-- for a law: a number that neither the pins nor IEN give, with nothing waiting. Decoding gives no such number but 7, 8 and 9 (isa, `word-answered`)
 pub record OfWord (k : ℕ) : Type 0 where
   pub not-0 : k ≡ 0 → ⊥
   pub not-5 : k ≡ 5 → ⊥

@@ -1,6 +1,7 @@
 -- What is written: the only place where a register changes (document 01, the machine and one cycle; what the instructions do).
+use mathlib.Core.Path.{_≡_}
 use Prim.Native.Nat.{ℕ, _/_, _%_}
-use mathlib.Core.List.{List}
+use mathlib.Core.List.{List, map}
 use lib.ListN.{getD, set}
 use Rattle.choice.specs.Pick.{pick}
 use Rattle.alu.specs.declared.Mode.{Mode}
@@ -51,3 +52,8 @@ settledOf mode k r e pins = record {
   status = statusAfter (r .status) (e .status) pins;
   waiting = Nothing;
 }
+
+-- for laws: the upper byte of each RAM word and of ACC is the same in both
+pub record UpperBytesKept (start end : Registers) : Type 0 where
+  pub ram : map upperByte (end .ram) ≡ map upperByte (start .ram)
+  pub acc : upperByte (end .acc) ≡ upperByte (start .acc)

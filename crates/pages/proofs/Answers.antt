@@ -15,7 +15,7 @@ use Rattle.run.specs.declared.Ending.the-variants.{Done, Stopped, Refused}
 use Rattle.run.specs.declared.Ran.{Ran}
 use Rattle.run.specs.Splitting.{wordsPerReport, wordsPerCycle, cycleAt, cyclesIn}
 use Rattle.run.specs.Courses.{Course, reportsOf}
-use Rattle.run.specs.Runs.{mostCycles, startRefusal, runOf, zeroMachine, fullBudget, summaryOf, ranTells, Gives}
+use Rattle.run.specs.Runs.{mostCycles, startRefusal, runOf, zeroMachine, fullBudget, summaryOf, ranTells, Gives, ranOf}
 use Rattle.run.proofs.Courses.{reports-length, steps-le}
 use Rattle.run.proofs.Starting.{started, refused-whole}
 use borrow.Author.Tests.{eqb-true, leb-true, leb-false}
@@ -33,7 +33,7 @@ use Rattle.lines.specs.declared.Remark.the-variants.{Refusal}
 use Rattle.lines.specs.Answers.{Makes}
 use Rattle.lines.specs.Remarks.{remarkLine}
 use Rattle.lines.proofs.Answered.{makes-as}
-use Rattle.pages.specs.Running.{readingOf, ifAccepted, courseOf, ranOf, ranFrom, endSaid}
+use Rattle.pages.specs.Running.{readingOf, ifAccepted, courseOf, ranFrom, endSaid}
 use Rattle.pages.specs.Packing.{writingOf}
 
 -- room for the words of every trace

@@ -15,7 +15,7 @@ use Rattle.text.specs.declared.Fault.{Fault}
 use Rattle.text.specs.declared.Stop.{Stop}
 use Rattle.text.specs.Taking.{oneMore, nextLine, nextColumn, passed, keptWord, withWord, withFault, faultAt, Took, stopsAt, moveAt, takeFrom}
 use Rattle.text.proofs.Laws.{met-all, met-both, some-bytes}
-use Rattle.pages.specs.Packing.{Gathered, faultThen, gatherFrom, goesOn}
+use Rattle.pages.specs.Packing.{Gathered, faultThen, gatherFrom, gatheredAfter}
 
 -- what a call says of the faults, and of its bytes where there was none
 abbrev pub Says : ℕ → ℕ → ℕ → Took → Type 0
@@ -26,7 +26,7 @@ Says faults i n t =
     ]
 
 module _ (i b : ℕ) (rest : List ℕ) where
-  one-byte-on : (t : Took) → suc i ≤ t .taken .bytes → goesOn t (suc i) rest ≡ goesOn t i (b ∷ rest)
+  one-byte-on : (t : Took) → suc i ≤ t .taken .bytes → gatheredAfter t (suc i) rest ≡ gatheredAfter t i (b ∷ rest)
   one-byte-on t h = by-stop (t .taken .stop)
     where
       again : (f : Fault) → faultThen f (gatherFrom (t .taken .reader) (drop (t .taken .bytes - suc i) rest) (t .words))
@@ -35,16 +35,16 @@ module _ (i b : ℕ) (rest : List ℕ) where
           let e : t .taken .bytes - i ≡ suc (t .taken .bytes - suc i) = omega arith in
           ap (λ (k : ℕ). faultThen f (gatherFrom (t .taken .reader) (drop k (b ∷ rest)) (t .words))) (sym e)
 
-      by-stop : (x : Stop) → goesOn (stopsAt (t .taken .reader) (t .taken .bytes) x (t .words)) (suc i) rest ≡ goesOn (stopsAt (t .taken .reader) (t .taken .bytes) x (t .words)) i (b ∷ rest)
+      by-stop : (x : Stop) → gatheredAfter (stopsAt (t .taken .reader) (t .taken .bytes) x (t .words)) (suc i) rest ≡ gatheredAfter (stopsAt (t .taken .reader) (t .taken .bytes) x (t .words)) i (b ∷ rest)
       by-stop Stop.TextEnd = refl
       by-stop (Stop.Bad f) = again f
 
-pub gather-take : (i : ℕ) (s : Reader) (text words : List ℕ) → gatherFrom s text words ≡ goesOn (takeFrom i s text words) i text
+pub gather-take : (i : ℕ) (s : Reader) (text words : List ℕ) → gatherFrom s text words ≡ gatheredAfter (takeFrom i s text words) i text
 unfolding takeFrom gatherFrom
 gather-take i s [] words = refl
 gather-take i s (b ∷ text) words =
     let next = passed s (moveAt s b) b in
-    met-both (λ (g : Gathered) (t : Took). g ≡ goesOn t i (b ∷ text)) (moveAt s b .met)
+    met-both (λ (g : Gathered) (t : Took). g ≡ gatheredAfter t i (b ∷ text)) (moveAt s b .met)
     (gatherFrom next text words)
     (λ y. gatherFrom (withWord next (length words)) text (keptWord (s .found) y words))
     (λ e. faultThen (faultAt s e) (gatherFrom (withFault next) text words))
@@ -57,7 +57,7 @@ gather-take i s (b ∷ text) words =
     (λ e. one-byte e)
   where
     one-byte : (e : Expected) → faultThen (faultAt s e) (gatherFrom (withFault (passed s (moveAt s b) b)) text words)
-        ≡ goesOn (stopsAt (withFault (passed s (moveAt s b) b)) (suc i) (Stop.Bad (faultAt s e)) words) i (b ∷ text)
+        ≡ gatheredAfter (stopsAt (withFault (passed s (moveAt s b) b)) (suc i) (Stop.Bad (faultAt s e)) words) i (b ∷ text)
     one-byte e =
         let one : suc i - i ≡ 1 = omega arith in
         ap (λ (k : ℕ). faultThen (faultAt s e) (gatherFrom (withFault (passed s (moveAt s b) b)) (drop k (b ∷ text)) words)) (sym one)

@@ -19,7 +19,7 @@ use Rattle.lines.specs.Putting.{Puts}
 use Rattle.lines.specs.Words.{faultLine}
 use Rattle.lines.proofs.Putting.{puts-both}
 use Rattle.lines.proofs.Longest.{fault-line-le}
-use Rattle.pages.specs.Packing.{Gathered, faultThen, gatherFrom, mostNamed, namedFrom, goesOn}
+use Rattle.pages.specs.Packing.{Gathered, faultThen, gatherFrom, mostNamed, namedFrom, gatheredAfter}
 use Rattle.pages.specs.Naming.{faultBytes, namedBytes, Names}
 use Rattle.pages.proofs.Longest.{one-more-up, one-more-no-less}
 use Rattle.pages.proofs.Gathered.{Says, gather-take, take-says}
@@ -100,8 +100,8 @@ module _ (start : Reader) (piece words₀ said₀ : List ℕ) (at : ℕ) where
       unfolding made
       made-is = ap (λ (x : Taken). record { taken = x; words = words′ }) taken-is ∙ ap (λ (l : List ℕ). record { taken = took .taken; words = l }) words-are
 
-      goes : gatherFrom state (drop from piece) words ≡ goesOn made 0 (drop from piece)
-      goes = gather-take 0 state (drop from piece) words ∙ ap (λ (x : Took). goesOn x 0 (drop from piece)) (sym made-is)
+      goes : gatherFrom state (drop from piece) words ≡ gatheredAfter made 0 (drop from piece)
+      goes = gather-take 0 state (drop from piece) words ∙ ap (λ (x : Took). gatheredAfter x 0 (drop from piece)) (sym made-is)
 
       says : Says (state .faults) 0 (length (drop from piece)) made
       says = subst (Says (state .faults) 0 (length (drop from piece))) (sym made-is) (take-says 0 state (drop from piece) words)
@@ -116,7 +116,7 @@ module _ (start : Reader) (piece words₀ said₀ : List ℕ) (at : ℕ) where
       at-end e =
           let ended = by-stop Stop.TextEnd e in
           let s = subst (Says (state .faults) 0 (length (drop from piece))) ended says in
-          let rest : gatherFrom state (drop from piece) words ≡ record { reader = r .reader; words = words′; faults = [] } = goes ∙ ap (λ (x : Took). goesOn x 0 (drop from piece)) ended in
+          let rest : gatherFrom state (drop from piece) words ≡ record { reader = r .reader; words = words′; faults = [] } = goes ∙ ap (λ (x : Took). gatheredAfter x 0 (drop from piece)) ended in
           let over : length piece ≤ from + r .bytes = omega (arith, s .1, length-drop from piece, t .within) in
           let none : drop (from + r .bytes) piece ≡ [] = drop-of-length-le piece over in
           let now : gatherFrom (r .reader) (drop (from + r .bytes) piece) words′ ≡ gatherFrom state (drop from piece) words =
@@ -145,7 +145,7 @@ module _ (start : Reader) (piece words₀ said₀ : List ℕ) (at : ℕ) where
           let onward : drop (r .bytes - 0) (drop from piece) ≡ drop (from + r .bytes) piece =
           ap (λ (k : ℕ). drop k (drop from piece)) (sub-zero (r .bytes)) ∙ drop-drop (r .bytes) from piece in
           let rest : gatherFrom state (drop from piece) words ≡ faultThen f (gatherFrom (r .reader) (drop (from + r .bytes) piece) words′) =
-          goes ∙ ap (λ (x : Took). goesOn x 0 (drop from piece)) bad ∙ ap (λ (l : List ℕ). faultThen f (gatherFrom (r .reader) l words′)) onward in
+          goes ∙ ap (λ (x : Took). gatheredAfter x 0 (drop from piece)) bad ∙ ap (λ (l : List ℕ). faultThen f (gatherFrom (r .reader) l words′)) onward in
           let here = pick (ltb (state .faults) mostNamed) (faultLine f) [] in
           let bound = one-fault-more at end end′ (state .faults) f (t .by-faults) (t .by-most) (p .end) in
           let later = gatherFrom (r .reader) (drop (from + r .bytes) piece) words′ in

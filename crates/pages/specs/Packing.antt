@@ -113,7 +113,7 @@ pub record EndsText (s : Reader) (r : Written) (words out errors words′ out′
   pub kept : words′ ≡ endedFrom s words .words
   pub written : Writes (packedText (endedFrom s words) (length out)) (packedSaid s (endedFrom s words) (length out)) r out errors out′ errors′
 
--- some bytes, and then more
+-- for a law: some bytes, and then more
 abbrev pub gatherOn : Gathered → List ℕ → Gathered
 gatherOn g more = record {
   reader = gatherFrom (g .reader) more (g .words) .reader;
@@ -121,7 +121,7 @@ gatherOn g more = record {
   faults = g .faults ++ gatherFrom (g .reader) more (g .words) .faults;
 }
 
--- how many lines are bad after some more, and what is named of them in pieces
+-- for a law: how many lines are bad after these faults, k being bad before
 abbrev pub badAfter : ℕ → List Fault → ℕ
 badAfter k [] = k
 badAfter k (f ∷ faults) = badAfter (oneMore k) faults
@@ -129,9 +129,10 @@ badAfter k (f ∷ faults) = badAfter (oneMore k) faults
 abbrev pub gathered : Reader → List ℕ → Gathered
 gathered s words = record { reader = s; words = words; faults = [] }
 
--- what a call of `take` leaves to be gathered: nothing at the end of the text, and after a fault the bytes after it
-abbrev pub goesOn : Took → ℕ → List ℕ → Gathered
-goesOn t i text =
+-- for a law: what a call of `take` leaves to be gathered: nothing at the end of the text, and after a fault the bytes after it; the text is what stands from
+-- byte i on
+abbrev pub gatheredAfter : Took → ℕ → List ℕ → Gathered
+gatheredAfter t i text =
     elim (t .taken .stop) [
       | Stop.TextEnd ↦ gathered (t .taken .reader) (t .words)
       | Stop.Bad f ↦ faultThen f (gatherFrom (t .taken .reader) (drop (t .taken .bytes - i) text) (t .words))

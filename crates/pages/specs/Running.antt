@@ -9,8 +9,8 @@ use Rattle.run.specs.declared.Ending.{Ending}
 use Rattle.run.specs.declared.Ending.the-variants.{Done, Stopped, Refused}
 use Rattle.run.specs.declared.Ran.{Ran}
 use Rattle.run.specs.Splitting.{wordsPerReport, cycleAt}
-use Rattle.run.specs.Courses.{Finish, done, stopped, Course, reportsOf}
-use Rattle.run.specs.Runs.{mostCycles, runOf, zeroMachine, fullBudget, Summary, summaryOf}
+use Rattle.run.specs.Courses.{Course, reportsOf}
+use Rattle.run.specs.Runs.{mostCycles, runOf, zeroMachine, fullBudget, summaryOf, ranOf}
 use Rattle.trace.specs.Layout.{wordsPerRecord, joined}
 use Rattle.trace.specs.Reading.{readOf, readWords}
 use Rattle.lines.specs.declared.Program.{Program}
@@ -36,17 +36,7 @@ refusalSaid program number index = remarkLine program (Refusal number index 0 0)
 abbrev pub courseOf : List ℕ → Course
 courseOf words = runOf zeroMachine words fullBudget (wordsPerReport * mostCycles)
 
--- a run's answer, by what it tells
-abbrev pub finishOf : Finish → Ending
-finishOf done = Done
-finishOf stopped = Stopped
-
-abbrev pub endingOf : Placed Finish → Ending
-endingOf p = elim (p .told .value) [ some f ↦ finishOf f | none ↦ Refused (p .told .number) (p .index) ]
-
-abbrev pub ranOf : Summary → Ran
-ranOf s = record { machine = s .machine; ending = endingOf (s .ending); accepted = s .accepted; completed = s .completed }
-
+-- the answer to that run
 abbrev pub ranFrom : List ℕ → Ran
 ranFrom words = ranOf (summaryOf zeroMachine (courseOf words))
 

@@ -19,7 +19,7 @@ use Rattle.isa.specs.declared.Row.{Row}
 use Rattle.isa.specs.Fields.{modeOf, markOf, markFor}
 use Rattle.isa.specs.Sets.{has}
 use Rattle.isa.specs.Table.{rowAt, numberOf, bitInMode}
-use Rattle.isa.specs.Words.{namedRow, accTwice, asksI, namesI as wordNamesI, decodeOf, takesImmediate}
+use Rattle.isa.specs.Words.{namedRow, accTwice, asksI, namesI as wordNamesI, decodeOf, takesImmediate, Listed}
 use Rattle.isa.proofs.Laws.{encode-decode, encode-takes, decode-named}
 use Rattle.isa.proofs.Families.{own-row, narrow}
 use Rattle.isa.proofs.Takes.{Taken, taken, small}
@@ -31,7 +31,7 @@ use Rattle.plan.specs.Numbers.{sameDestination}
 use Rattle.plan.specs.Tables.{back}
 use Rattle.plan.specs.Plans.{workOf, planOf}
 use Rattle.plan.specs.Reading.{namesI, writesRam, isBit, accUnderAcc, isRamAccOrLatch}
-use Rattle.plan.specs.Listed.{Listed, toRam}
+use Rattle.plan.specs.Listed.{toRam}
 use Rattle.plan.proofs.Sound.{destination-sound}
 
 abbrev isMerge : Task → Bool

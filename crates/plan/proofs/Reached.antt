@@ -1,4 +1,4 @@
--- No instruction of the list comes to what a table says of values without an entry: `default-not-reached`, at the end of this file. Behind it stands
+-- Any way of looking up that has every entry makes the same work of an instruction of the list: `default-not-reached`, at the end. Behind it stands
 -- one test, that a table has an entry for each value of the list of the field at which a family consults it.
 use mathlib.Core.Path.{_≡_, refl}
 use mathlib.Core.Bool.{Bool, true, false}
@@ -14,8 +14,8 @@ use Rattle.isa.specs.Table.{rowAt, numberOf}
 use Rattle.plan.specs.declared.Source.the-variants.{Ram, Acc}
 use Rattle.plan.specs.Tables.{Table, Looking, at, hasEntry, twoOperands, oneOperands, shifts, bor2Bits, bor1Bits, bonrBits, statusBits, ramPairR, ramPairS, pairR, pairS, sources, prt1Source, maskSource, rotateU, rotateR, rotateMask, shiftSource, bonrSource, rotnrSource, ramPairTo, rotr1To, sorTo, prt1To, prt2To, noRamTo, rotnrTo}
 use Rattle.plan.specs.Plans.{workBy, workOf}
-use Rattle.plan.specs.Listed.{Listed}
 use Rattle.plan.proofs.Laws.{Fields, fields}
+use Rattle.isa.specs.Words.{Listed}
 
 -- the table has an entry for each value of a set
 abbrev covers : {A : Type 0} → Table A → ℕ → Bool

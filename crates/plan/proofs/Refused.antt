@@ -18,7 +18,7 @@ use Rattle.isa.specs.declared.Named.{Named}
 use Rattle.isa.specs.declared.Row.{Row}
 use Rattle.isa.specs.Fields.{markFor}
 use Rattle.isa.specs.Table.{bitInMode}
-use Rattle.isa.specs.Words.{InFamily, namedBy, namedRow, accTwice, bitTooHigh, decodeOf, encodeOf}
+use Rattle.isa.specs.Words.{InFamily, namedBy, namedRow, accTwice, bitTooHigh, decodeOf, encodeOf, Listed}
 use Rattle.isa.proofs.Laws.{encode-takes, named-eight, named-nine, named-in, number-of-named}
 use Rattle.isa.proofs.Takes.{in-turn}
 use Rattle.plan.specs.declared.Source.{Source}
@@ -28,7 +28,6 @@ use Rattle.plan.specs.declared.Task.the-variants.{NoOperation, TwoOperan
 use Rattle.plan.specs.declared.Work.{Work}
 use Rattle.plan.specs.Plans.{planOf}
 use Rattle.plan.specs.Reading.{isBit, isPrioritize, isAcc, accUnderAcc}
-use Rattle.plan.specs.Listed.{Listed}
 use Rattle.plan.proofs.Laws.{plan-n, acc-agrees, bit-agrees}
 
 of-prioritize : (t : Task) → isPrioritize t ≡ true → t ≡ Prioritize

@@ -1,19 +1,10 @@
--- For the laws that hold plans to document 01's instruction list: an instruction of the list, and what the list sends to RAM.
+-- For the law that holds plans to document 01's instruction list: what the list sends to RAM.
 use Prim.Native.Nat.{ℕ}
-use mathlib.Core.Path.{_≡_}
 use mathlib.Core.Bool.{Bool, true, false}
 use mathlib.Core.List.{[], _∷_}
 use Rattle.isa.specs.declared.Family.{Family}
 use Rattle.isa.specs.declared.Family.the-variants.{Tor1, Rotr1, Rotr2, Rotc, Rotm, Sor, Bor2, Tor2, Shftr, Crcf, Crcr, Prt1, Prt2, Prt3, Svstr, Sonr, Tonr, Shftnr, Bor1, Bonr, Rotnr, Prtnr, Svstnr, Setst, Rstst, Test, Noop}
-use Rattle.isa.specs.declared.Named.{Named}
-use Rattle.isa.specs.Fields.{markFor}
 use Rattle.isa.specs.Sets.{has, these}
-use Rattle.isa.specs.Slots.{takes}
-use Rattle.isa.specs.Words.{namedRow}
-
--- an instruction of the list: its family takes its mode and fields
-abbrev pub Listed : Named → Type 0
-Listed n = takes (namedRow n) (markFor (n .mode)) (n .a) (n .b) (n .c) ≡ true
 
 -- what goes to RAM, by fields A and B (document 01, the instruction list)
 abbrev pub toRam : Family → ℕ → ℕ → Bool

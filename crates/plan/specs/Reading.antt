@@ -1,5 +1,6 @@
 -- What is read off a plan: whether the instruction has an I operand (document 01, the machine and one cycle) and, for the laws that hold
--- plans to the list, whether it writes RAM, is a bit operation, prioritizes ACC under ACC, and has RAM, ACC or D where it goes back.
+-- plans to the list, whether it writes RAM, is a bit operation, prioritizes ACC under ACC, and takes a merge's R or a bit operation's source from RAM, ACC
+-- or D.
 use mathlib.Core.Bool.{Bool, true, false}
 use Rattle.choice.specs.Pick.{pick}
 use Rattle.plan.specs.declared.Source.{Source}

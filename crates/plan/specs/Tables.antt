@@ -43,7 +43,8 @@ lookUp (e ∷ es) other k = elim (eqb (e .value) k) [ true ↦ e .stands | false
 abbrev pub at : {A : Type 0} → Table A → ℕ → A
 at t k = lookUp (t .entries) (t .other) k
 
--- a way to look up values in tables, and the one that is meant: a law has others, which differ where there is no entry
+-- how a table is looked up, and the way that is meant. The law `default-not-reached` (proofs/Reached) puts other ways in its place, which agree with it
+-- wherever there is an entry, such as one that gives the first entry's value elsewhere
 pub record Looking : Type 1 where
   pub look : {A : Type 0} → Table A → ℕ → A
 

@@ -3,7 +3,7 @@
 use mathlib.Core.Path.{_≡_, refl, sym, ap, _∙_, subst, subst⁻¹}
 use mathlib.Core.List.{List, [], _∷_}
 use mathlib.Core.Option.{Option, none, some}
-use Prim.Native.Nat.{ℕ, zero, suc, _+_, _*_, _<_}
+use Prim.Native.Nat.{ℕ, zero, suc, _+_, _*_, _≤_, _<_}
 use native.Mathlib.Nat.{zero-add, add-zero, add-assoc}
 use native.Mathlib.Omega.{arith}
 use lib.ListN.{length, take, drop}
@@ -25,10 +25,11 @@ abbrev Turns : Machine → List ℕ → ℕ → List Step → Type 0
 Turns m words i [] = Unit {0}
 Turns m words i (s ∷ steps) = (turnAt m words i ≡ acceptedTurn s) × Turns m words (suc i) steps
 
--- how a course of n cycles closes after k: with none left, with the budget spent, or at a refused cycle
+-- how a course of n cycles closes after k, for the induction over its cycles: with none left, within the budget; with the budget spent; or at a
+-- refused cycle. Of an answer it is `Ends` (specs/Following)
 abbrev pub Closes : Machine → List ℕ → ℕ → ℕ → Tells Finish → ℕ → Type 0
 Closes m words n budget close k = elim (close .value) [
-  | some f ↦ elim f [ done ↦ k ≡ n | stopped ↦ (k ≡ budget) × (k < n) ]
+  | some f ↦ elim f [ done ↦ (k ≡ n) × (k ≤ budget) | stopped ↦ (k ≡ budget) × (k < n) ]
   | none ↦ (k < n) × (k < budget) × (turnAt m words k .answer ≡ refused (close .number))
 ]
 
@@ -82,7 +83,7 @@ module _ (m : Machine) (words : List ℕ) where
 
   closes-from : (n i budget : ℕ) → Closes m words (i + n) (i + budget) (from i n budget .close) (i + length (from i n budget .steps))
   unfolding runFrom
-  closes-from zero i budget = refl
+  closes-from zero i budget = (refl, omega arith)
   closes-from (suc n) i zero = (refl, omega arith)
   closes-from (suc n) i (suc budget) =
       step-closes i (turnAt m words i .answer .value) (runFrom (machineAt m words (suc i)) budget (cyclesFrom words (i + 1) n)) n budget refl

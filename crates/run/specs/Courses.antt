@@ -56,11 +56,11 @@ abbrev pub reportsOf : List Step → List ℕ
 reportsOf [] = []
 reportsOf (s ∷ steps) = reportWords (s .report) ++ reportsOf steps
 
--- steps, and then a course
+-- for laws: steps, and then a course
 abbrev pub preceded : List Step → Course → Course
 preceded past c = record { steps = past ++ c .steps; close = c .close }
 
--- the first where a course finished so, else the second
+-- for laws: x where a course finished with f, else y
 abbrev pub finishedAs : Finish → Option Finish → Course → Course → Course
 finishedAs done (some done) x y = x
 finishedAs done (some stopped) x y = y
@@ -69,6 +69,6 @@ finishedAs stopped (some stopped) x y = x
 finishedAs done none x y = y
 finishedAs stopped none x y = y
 
--- a course and then, where it finished so, another from the machine that it leaves
+-- for laws: c and, where it finished with f, the steps and the close of d after it
 abbrev pub continued : Finish → Course → Course → Course
 continued f c d = finishedAs f (c .close .value) (preceded (c .steps) d) c

@@ -1,7 +1,7 @@
 -- The cycles of some words one after another, whatever becomes of them: what a run's reports, counts and end are compared with (document 01,
 -- runs; what the statements say). Demand 2 is said of a run with it.
 use mathlib.Core.Path.{_≡_}
-use Prim.Native.Nat.{ℕ, zero, suc, _+_, _*_, _<_}
+use Prim.Native.Nat.{ℕ, zero, suc, _+_, _*_, _≤_, _<_}
 use mathlib.Core.List.{List, []}
 use mathlib.Core.Option.{Option, none, some}
 use lib.ListN.{length, take, drop}
@@ -36,9 +36,9 @@ abbrev pub completedBefore : Machine → List ℕ → ℕ → ℕ
 completedBefore m words zero = 0
 completedBefore m words (suc n) = completedBefore m words n + answerCompletions (turnAt m words n .answer .value)
 
--- how a run of n cycles ends after k of them: none is left; the budget is spent and some are left; or cycle k is refused
+-- how a run of n cycles ends after k of them: none is left, within the budget; the budget is spent and some are left; or cycle k is refused
 abbrev pub Ends : Machine → List ℕ → ℕ → ℕ → ℕ → Ending → Type 0
-Ends m words n budget k Done = k ≡ n
+Ends m words n budget k Done = (k ≡ n) × (k ≤ budget)
 Ends m words n budget k Stopped = (k ≡ budget) × (k < n)
 Ends m words n budget k (Refused number index) = (index ≡ k) × (k < n) × (k < budget) × (turnAt m words k .answer ≡ refused number)
 

@@ -75,6 +75,17 @@ endingTells (Refused k i) = refusedAt k i
 abbrev pub ranTells : Ran → Summary
 ranTells r = record { machine = r .machine; ending = endingTells (r .ending); accepted = r .accepted; completed = r .completed }
 
+-- and the answer that tells so
+abbrev pub finishOf : Finish → Ending
+finishOf done = Done
+finishOf stopped = Stopped
+
+abbrev pub endingOf : Placed Finish → Ending
+endingOf p = elim (p .told .value) [ some f ↦ finishOf f | none ↦ Refused (p .told .number) (p .index) ]
+
+abbrev pub ranOf : Summary → Ran
+ranOf s = record { machine = s .machine; ending = endingOf (s .ending); accepted = s .accepted; completed = s .completed }
+
 -- an answer, and a lent slice after the call, are what a course says: the reports of its steps, and then the slice as it was
 pub record Gives (m : Machine) (c : Course) (r : Ran) (before after : List ℕ) : Type 0 where
   pub answer : ranTells r ≡ summaryOf m c

@@ -90,10 +90,10 @@ pub record Takes (s : Reader) (text : List ℕ) (r : Taken) (before after : List
   pub taken : r ≡ takeFrom 0 s text before .taken
   pub written : after ≡ takeFrom 0 s text before .words
 
--- what follows a piece of a text: the next piece, unless there was a fault
+-- for laws: what follows a piece of a text: the next piece, unless there was a fault
 abbrev pub goesOn : Took → List ℕ → Took
 goesOn t rest = elim (t .taken .stop) [ Stop.TextEnd ↦ takeFrom (t .taken .bytes) (t .taken .reader) rest (t .words) | Stop.Bad f ↦ t ]
 
--- a reader, by its parts
+-- for laws: a reader, by its parts
 abbrev pub reader : ℕ → ℕ → ℕ → Place → ℕ → ℕ → Reader
 reader line column words place found faults = record { line = line; column = column; words = words; place = place; found = found; faults = faults }

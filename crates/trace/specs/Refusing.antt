@@ -25,7 +25,7 @@ blockNumber w t j = blockRefusal w j (blockCount t - j - 1) (blockAt t j)
 abbrev pub endNumber : ℕ → List ℕ → ℕ → ℕ
 endNumber w t room = refusal (endChecks w (recordCount (traceBlocks t)) room)
 
--- the reader refuses with k at i: by the length; by block i, the first that is not sound; or, with all blocks sound, at the end
+-- the reader refuses with k, which is not 0, at i: by the length; by block i, the first that is not sound; or, with all blocks sound, at the end
 pub data Refuses (w : ℕ) (t : List ℕ) (room k i : ℕ) : Type 0 where
   by-length : wholeNumber w t ≡ k → i ≡ 0 → Refuses w t room k i
   by-block : wholeNumber w t ≡ 0 → i < blockCount t → ((j : ℕ) → j < i → blockNumber w t j ≡ 0) → blockNumber w t i ≡ k → Refuses w t room k i
