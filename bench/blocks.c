@@ -116,7 +116,7 @@ void measure_blocks(void)
         time_once(check_table, &table);
         time_once(read_trace, &read);
     }
-    printf("block check, ns a block: ours %.1f, table-driven C %.1f\n", ours / BLOCKS, table / BLOCKS);
+    printf("block check, ns per block: ours %.1f, table-driven C %.1f\n", ours / BLOCKS, table / BLOCKS);
     printf("block check, ours : C: %.3f\n", ours / table);
     printf("reading a full trace of %d blocks, us: %.1f\n", BLOCKS, read / 1e3);
 }

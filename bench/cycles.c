@@ -104,7 +104,7 @@ void compare_cycles(void)
     compare(byte_mode, run_beside_check, "byte mode, with trace linked");
 }
 
-/* Keeps the least nanoseconds a cycle. */
+/* Keeps the least nanoseconds per cycle. */
 static void time_once(const struct trace *traces, run_function *run, double *best)
 {
     double begun = seconds();
@@ -122,7 +122,7 @@ static void measure(const struct trace *traces, const char *name)
         time_once(traces, run_beside_check, &beside_check);
         time_once(traces, run_c, &c);
     }
-    printf("%s, ns a cycle: run alone %.2f, with trace linked %.2f, C %.2f\n", name, alone, beside_check, c);
+    printf("%s, ns per cycle: run alone %.2f, with trace linked %.2f, C %.2f\n", name, alone, beside_check, c);
     printf("%s, ours : C: run alone %.3f, with trace linked %.3f\n", name, alone / c, beside_check / c);
 }
 

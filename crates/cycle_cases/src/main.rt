@@ -1,4 +1,4 @@
-// Reads single cycles on standard input, a line each, and prints what each does. A line has seven words of four capital hex digits:
+// Reads single cycles on standard input, one per line, and prints what each does. A line has seven words of four capital hex digits:
 // the waiting word (0000 for none), ACC, D and the status at the start, then the lines, the Y input and the pins.
 use libc::STDIN_FILENO;
 use libc::STDOUT_FILENO;

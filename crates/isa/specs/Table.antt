@@ -1,4 +1,4 @@
--- The instruction list of document 01 as a table: 27 rows, one a family, in the order of quadrants Q0 to Q3.
+-- The instruction list of document 01 as a table: 27 rows, one per family, in the order of quadrants Q0 to Q3.
 -- A word belongs to a row by its quadrant, its mode, and its fields A, B and C, each of which has a list of values.
 use Prim.Native.Nat.{ℕ, _*_, _^_}
 use mathlib.Core.List.{List, [], _∷_}

@@ -27,7 +27,7 @@ const ONE_ACC: u8 = 8;
 
 const BIT_IN_MODE: u8 = 9;
 
-// A row a family, in the order of the families. Bit k of a set says whether k is in it.
+// One row per family, in the order of the families. Bit k of a set says whether k is in it.
 const ROWS: [Row; 27] = [
     // A 0, 2, 3, 8, 10 to 12, 14, 15; B 0 to 11; C a RAM address; I with A 2, 10, 14
     Row {

@@ -1,4 +1,4 @@
--- What is said to a person on standard error, a line each: which program says it, and what. Document 01 has the refusal numbers and what they
+-- What is said to a person on standard error, one line per remark: which program says it, and what. Document 01 has the refusal numbers and what they
 -- are for; the words are ours (docs/DECISIONS.md).
 use Prim.Native.Nat.{ℕ}
 use mathlib.Core.List.{List, [], _∷_, _++_}

@@ -284,7 +284,7 @@ module _ (i : ℕ) (h : i < noRow) (v : ℕ) (l : v < mostValues) where
   pub writes-c : Writes (rowAt i .c) (formOf (rowAt i .family) .c) v
   writes-c = writes-at _ _ v (both (writes (rowAt i .b) (formOf (rowAt i .family) .b) v) _ later .1)
 
--- the families and the modes have a text each, and no other number has one
+-- the families and the modes each have a text, and no other number has one
 abbrev as-many : Place → ℕ → ℕ → Bool
 as-many p n v = same (full (textOf p v)) (ltb v n)
 

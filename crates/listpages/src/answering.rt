@@ -76,7 +76,7 @@ fn join_answers(reading: Reading, bytes: &[u8], text: &mut [u8]) -> Joined
     }
 }
 
-// The answers to the lines of some bytes, a line each. The last line may lack its line feed. Bytes beyond `PIECE_BYTES` are passed over.
+// The answers to the lines of some bytes, one line per answer. The last line may lack its line feed. Bytes beyond `PIECE_BYTES` are passed over.
 pub fn read_lines(reading: Reading, bytes: &[u8], out: &mut [u8]) -> LinesRead
     ensures { λ r. ⌜ ReadsLines reading (now (bytes .entry)) r (now (out .entry)) (now (out .exit)) ⌝ }
 {

@@ -7,7 +7,7 @@ use Rattle.lines.specs.declared.Program.the-variants.{UnpackTrace}
 use Rattle.lines.specs.Words.{textOf}
 use Rattle.pages.specs.Running.{readingOf, ifAccepted, refusalSaid}
 
--- the words of the trace's cycles, a line each; nothing where the trace is refused
+-- the words of the trace's cycles, one line per cycle; nothing where the trace is refused
 unfoldable pub unpackedText : List ℕ → List ℕ
 unpackedText trace = ifAccepted (readingOf trace) (textOf (readWords wordsPerRecord trace)) (λ (number index : ℕ). [])
 

@@ -45,7 +45,7 @@ fn unpack_words(words: &[u16], out: &mut [u8]) -> Line
     lines::hand_over(&text[..n], out)
 }
 
-// The words of a trace's cycles, a line each. Of a trace that the reader refuses there is nothing but what is said.
+// The words of a trace's cycles, one line per cycle. Of a trace that the reader refuses there is nothing but what is said.
 pub fn unpack_trace(trace: &[u8], out: &mut [u8], said: &mut [u8]) -> Written
     ensures { λ r. ⌜ Writes (unpackedText (now (trace .entry))) (unpackedSaid (now (trace .entry))) r (now (out .entry)) (now (said .entry)) (now (out .exit)) (now (said .exit)) ⌝ }
 {

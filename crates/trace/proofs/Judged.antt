@@ -46,7 +46,7 @@ module _ (rest : Placed ℕ) where
       by-test true e f = f e
       by-test false e f = e
 
--- m blocks of a trace, w words a record
+-- m blocks of a trace, w words per record
 module _ (w m : ℕ) (t : List ℕ) where
   -- the blocks from k on, and their judgement with n records before them
   abbrev pub from : ℕ → List (List ℕ)

@@ -5,7 +5,7 @@ use Rattle.choice.specs.Pick.{pick}
 use Rattle.run.specs.Runs.{mostCycles}
 use Rattle.trace.specs.Layout.{blockBytes, blockWords}
 
--- the blocks that n words take, and the most that a trace has: 49 with three words a record
+-- the blocks that n words take, and the most that a trace has: 49 with three words per record
 abbrev pub blocksFor : ℕ → ℕ
 blocksFor n = (n + (blockWords - 1)) / blockWords
 
