@@ -1,11 +1,11 @@
 -- What holds of every cycle: a refused one changes nothing (`refused-unchanged`), one that only waits keeps its word (`wait-changes`), an
 -- accepted one completes or waits (`completes-or-waits`, `waiting-completes`, `begins-waiting`) and leaves a machine that may start (`accepted-may-start`), and
--- what IEN and SRE keep (`ien-high-keeps`, `status-kept`); and that no two outcomes satisfy a call's statement.
+-- what IEN and SRE keep (`ien-high-keeps`, `status-kept`, `sre-high-keeps`); and that no two outcomes satisfy a call's statement.
 -- Further laws, in this order: `refused-numbered`, `completes-its-own`, `cycle-unique`, `may-start-unique`.
 use mathlib.Core.Path.{_≡_, refl, _∙_, sym, ap}
 use mathlib.Core.Bool.{Bool, true, false}
 use mathlib.Core.Option.{some, Option·some-injective, Option·some-ne-none}
-use Prim.Native.Nat.{ℕ, _+_, _%_}
+use Prim.Native.Nat.{ℕ, _+_, _/_, _%_}
 use native.Mathlib.Omega.{arith}
 use borrow.Author.Tests.{eqb-true, ne-eqb}
 use Rattle.choice.specs.Tells.{Tells, accepted, refused}
@@ -131,6 +131,10 @@ module _ (m : Machine) (c : Words) where
     waits = λ x i. refl;
     performs = λ n. unpicked (bothLow (c .pins)) _ (m .registers .status) h;
   })
+
+  -- SRE high, by the pin's own bit: the status stays
+  pub sre-high-keeps : c .pins / 2 % 2 ≡ 1 → cycleOf m c .machine .registers .status ≡ m .registers .status
+  sre-high-keeps h = status-kept (ne-eqb (c .pins % 4) 0 (λ z. omega (arith, z, h)))
 
   -- IEN high: no RAM, ACC or status changes
   pub ien-high-keeps : ienHigh (c .pins) ≡ true
