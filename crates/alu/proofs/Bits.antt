@@ -8,57 +8,57 @@ use lib.Bits.{bit_and, bit_or, bit_xor, and_shr, or_shr, xor_shr, and_mod, or_mo
 use Rattle.alu.specs.Width.{bit, low, complement}
 
 -- 0 and 1 are all the bits
-pub bit-cases : (P : ℕ → Type 0) → P 0 → P 1 → (x : ℕ) → x < 2 → P x
-bit-cases P p q zero h = p
-bit-cases P p q (suc zero) h = q
-bit-cases P p q (suc (suc x)) h = absurd (not-suc-le-zero (le_of_suc-le-suc (le_of_suc-le-suc h)))
+pub bit_cases : (P : ℕ → Type 0) → P 0 → P 1 → (x : ℕ) → x < 2 → P x
+bit_cases P p q zero h = p
+bit_cases P p q (suc zero) h = q
+bit_cases P p q (suc (suc x)) h = absurd (not-suc-le-zero (le_of_suc-le-suc (le_of_suc-le-suc h)))
 
 pub bits : (P : ℕ → ℕ → Type 0) → P 0 0 → P 0 1 → P 1 0 → P 1 1 → (x y : ℕ) → x < 2 → y < 2 → P x y
-bits P a b c d x y h l = bit-cases (λ (x : ℕ). P x y) (bit-cases (P 0) a b y l) (bit-cases (P 1) c d y l) x h
+bits P a b c d x y h l = bit_cases (λ (x : ℕ). P x y) (bit_cases (P 0) a b y l) (bit_cases (P 1) c d y l) x h
 
-pub bit-lt : (i x : ℕ) → bit i x < 2
-bit-lt i x = mod-lt (x / 2 ^ i) (zero-lt-suc 1)
+pub bit_lt : (i x : ℕ) → bit i x < 2
+bit_lt i x = mod-lt (x / 2 ^ i) (zero-lt-suc 1)
 
-pub bit-and : (i a b : ℕ) → bit i (bit_and a b) ≡ bit_and (bit i a) (bit i b)
-bit-and i a b = ap (λ (x : ℕ). x % 2) (and_shr a b i) ∙ and_mod (a / 2 ^ i) (b / 2 ^ i) 1
+pub bit_and_lem : (i a b : ℕ) → bit i (bit_and a b) ≡ bit_and (bit i a) (bit i b)
+bit_and_lem i a b = ap (λ (x : ℕ). x % 2) (and_shr a b i) ∙ and_mod (a / 2 ^ i) (b / 2 ^ i) 1
 
-pub bit-or : (i a b : ℕ) → bit i (bit_or a b) ≡ bit_or (bit i a) (bit i b)
-bit-or i a b = ap (λ (x : ℕ). x % 2) (or_shr a b i) ∙ or_mod (a / 2 ^ i) (b / 2 ^ i) 1
+pub bit_or_lem : (i a b : ℕ) → bit i (bit_or a b) ≡ bit_or (bit i a) (bit i b)
+bit_or_lem i a b = ap (λ (x : ℕ). x % 2) (or_shr a b i) ∙ or_mod (a / 2 ^ i) (b / 2 ^ i) 1
 
-pub bit-xor : (i a b : ℕ) → bit i (bit_xor a b) ≡ bit_xor (bit i a) (bit i b)
-bit-xor i a b = ap (λ (x : ℕ). x % 2) (xor_shr a b i) ∙ xor_mod (a / 2 ^ i) (b / 2 ^ i) 1
+pub bit_xor_lem : (i a b : ℕ) → bit i (bit_xor a b) ≡ bit_xor (bit i a) (bit i b)
+bit_xor_lem i a b = ap (λ (x : ℕ). x % 2) (xor_shr a b i) ∙ xor_mod (a / 2 ^ i) (b / 2 ^ i) 1
 
 -- a part keeps the bits below its width
-pub bit-low : (w i x : ℕ) → i < w → bit i (low w x) ≡ bit i x
-bit-low w i x h =
+pub bit_low : (w i x : ℕ) → i < w → bit i (low w x) ≡ bit i x
+bit_low w i x h =
     let e : (w - i) + i ≡ w = omega arith in
     let f : (w - i - 1) + 1 ≡ w - i = omega arith in
     ap (λ (m : ℕ). x % 2 ^ m / 2 ^ i % 2) (sym e) ∙ ap (λ (y : ℕ). y % 2) (field x (w - i) i)
     ∙ ap (λ (m : ℕ). x / 2 ^ i % 2 ^ m % 2) (sym f) ∙ mod-mod-pow (x / 2 ^ i) (w - i - 1) 1
 
-pub bit-shr : (j i x : ℕ) → bit i (x / 2 ^ j) ≡ bit (j + i) x
-bit-shr j i x = ap (λ (y : ℕ). y % 2) (shr-shr x j i)
+pub bit_shr : (j i x : ℕ) → bit i (x / 2 ^ j) ≡ bit (j + i) x
+bit_shr j i x = ap (λ (y : ℕ). y % 2) (shr-shr x j i)
 
 -- above all of a number's bits there is none
-pub bit-above : (i x : ℕ) → x < 2 ^ i → bit i x ≡ 0
-bit-above i x h = ap (λ (y : ℕ). y % 2) (div-eq_of_lt h)
+pub bit_above : (i x : ℕ) → x < 2 ^ i → bit i x ≡ 0
+bit_above i x h = ap (λ (y : ℕ). y % 2) (div-eq_of_lt h)
 
 -- two parts, one above the other
-pub bit-lower : (k i hi lo : ℕ) → i < k → lo < 2 ^ k → bit i (hi * 2 ^ k + lo) ≡ bit i lo
-bit-lower k i hi lo h l = sym (bit-low k i (hi * 2 ^ k + lo) h) ∙ ap (bit i) (low_part hi k l)
+pub bit_lower : (k i hi lo : ℕ) → i < k → lo < 2 ^ k → bit i (hi * 2 ^ k + lo) ≡ bit i lo
+bit_lower k i hi lo h l = sym (bit_low k i (hi * 2 ^ k + lo) h) ∙ ap (bit i) (low_part hi k l)
 
-pub bit-upper : (k i hi lo : ℕ) → lo < 2 ^ k → bit (k + i) (hi * 2 ^ k + lo) ≡ bit i hi
-bit-upper k i hi lo l = sym (bit-shr k i (hi * 2 ^ k + lo)) ∙ ap (bit i) (high hi k l)
+pub bit_upper : (k i hi lo : ℕ) → lo < 2 ^ k → bit (k + i) (hi * 2 ^ k + lo) ≡ bit i hi
+bit_upper k i hi lo l = sym (bit_shr k i (hi * 2 ^ k + lo)) ∙ ap (bit i) (high hi k l)
 
 -- the weight of the top bit is half the size
-pub pow-half : (w : ℕ) → 0 < w → 2 ^ w ≡ 2 * 2 ^ (w - 1)
-pow-half w h = let e : 1 + (w - 1) ≡ w = omega arith in ap (λ (m : ℕ). 2 ^ m) (sym e) ∙ pow-add 2 1 (w - 1)
+pub pow_half : (w : ℕ) → 0 < w → 2 ^ w ≡ 2 * 2 ^ (w - 1)
+pow_half w h = let e : 1 + (w - 1) ≡ w = omega arith in ap (λ (m : ℕ). 2 ^ m) (sym e) ∙ pow-add 2 1 (w - 1)
 
-pub bit-of-bit : (x : ℕ) → x < 2 → bit 0 x ≡ x
-bit-of-bit = bit-cases (λ (x : ℕ). bit 0 x ≡ x) refl refl
+pub bit_of_bit : (x : ℕ) → x < 2 → bit 0 x ≡ x
+bit_of_bit = bit_cases (λ (x : ℕ). bit 0 x ≡ x) refl refl
 
-pub bit-zero : (x : ℕ) → bit 0 x ≡ x % 2
-bit-zero x = omega arith
+pub bit_zero : (x : ℕ) → bit 0 x ≡ x % 2
+bit_zero x = omega arith
 
 -- a complement turns each bit over: above place i stands what is left of all ones, and so at place i
 module _ (w i x : ℕ) (h : i < w) where
@@ -80,9 +80,9 @@ module _ (w i x : ℕ) (h : i < w) where
   pub bit-complement : bit i (complement w x) ≡ 1 - bit i x
   unfolding above
   bit-complement =
-      let e : 2 ^ (w - i) ≡ 2 * 2 ^ (w - i - 1) = pow-half (w - i) (omega arith) in
+      let e : 2 ^ (w - i) ≡ 2 * 2 ^ (w - i - 1) = pow_half (w - i) (omega arith) in
       let p : (2 ^ (w - i) - 1 - above) + 1 + above ≡ 2 ^ (w - i) = omega (arith, above-lt) in
       let q : (2 ^ (w - i) - 1 - above) % 2 ≡ 1 - above % 2 = omega (arith, above-lt) in
       ap (bit i) (parted (2 ^ (w - i) - 1 - above) p)
       ∙ ap (λ (y : ℕ). y % 2) (high (2 ^ (w - i) - 1 - above) i (omega (arith, pow_pos i)))
-      ∙ q ∙ ap (λ (y : ℕ). 1 - y) (bit-low w i x h)
+      ∙ q ∙ ap (λ (y : ℕ). 1 - y) (bit_low w i x h)

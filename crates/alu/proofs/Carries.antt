@@ -1,5 +1,5 @@
 -- The sums in the terms of whole numbers (specs/Sums): what C and OVR say of them. `sum-at-width`, first, is the one fact that byte and word
--- arithmetic share; `sums-meet`, `enough` and `same-leaves-one` stand at the end.
+-- arithmetic share; `sums-meet`, `enough` and `same_leaves_one` stand at the end.
 use mathlib.Core.Path.{◌≡◌, sym, ap, ap₂, ◌∙◌}
 use mathlib.Core.Logic.{◌↔◌}
 use Prim.Native.Nat.{ℕ, ◌+◌, ◌-◌, ◌*◌, ◌/◌, ◌%◌, ◌^◌, ◌≤◌, ◌<◌}
@@ -18,30 +18,30 @@ use Rattle.alu.specs.declared.BitKind.TheVariants.{SetBit, ResetBit, TestBit, Lo
 use Rattle.alu.specs.declared.Operation.{Operation}
 use Rattle.alu.specs.declared.Operation.TheVariants.{TwoOperand, OneOperand, Bit, Shift, Rotate, Merge, Compare, Prioritize, CrcForward, CrcReverse}
 use Rattle.alu.specs.Width.{bit, low, complement}
-use Rattle.alu.specs.Flags.{storedC}
-use Rattle.alu.specs.Operations.{carryInto, plus, minus, twoOperand, oneOperand, power, bitOperation, outcomeOf}
-use Rattle.alu.specs.Sums.{InRange, Added, Taken, twoOperandTerms, oneOperandTerms, bitTerms, termsOf, Meets}
-use Rattle.alu.proofs.Fits.{low-lt, complement-lt}
-use Rattle.alu.proofs.Bits.{bit-cases, bits, bit-lt, bit-complement, pow-half}
+use Rattle.alu.specs.Flags.{stored_c}
+use Rattle.alu.specs.Operations.{carry_into, plus, minus, two_operand, one_operand, power, bit_operation, outcome_of}
+use Rattle.alu.specs.Sums.{InRange, Added, Taken, two_operand_terms, one_operand_terms, bit_terms, terms_of, Meets}
+use Rattle.alu.proofs.Fits.{low_lt, complement_lt}
+use Rattle.alu.proofs.Bits.{bit_cases, bits, bit_lt, bit-complement, pow_half}
 use Rattle.alu.proofs.Changes.{plus-carry, plus-overflow}
 
 -- The sum.
 
 module _ (w a b k : ℕ) (ha : a < 2 ^ w) (hb : b < 2 ^ w) (hk : k < 2) where
-  carry-is : carryInto w a b k ≡ (a + b + k) / 2 ^ w
+  carry-is : carry_into w a b k ≡ (a + b + k) / 2 ^ w
   carry-is =
       ap₂ (λ (x y : ℕ). (x + y + k) / 2 ^ w % 2) (mod-eq_of_lt ha) (mod-eq_of_lt hb)
       ∙ mod-eq_of_lt (shr_lt 1 w (omega (arith, pow-add 2 1 w)))
 
   -- the result and the carry out are the whole sum
-  pub sum-at-width : low w (a + b + k) + 2 ^ w * carryInto w a b k ≡ a + b + k
+  pub sum-at-width : low w (a + b + k) + 2 ^ w * carry_into w a b k ≡ a + b + k
   sum-at-width = omega (arith, ap (λ (x : ℕ). 2 ^ w * x) carry-is, div-add-mod (a + b + k) (2 ^ w))
 
 -- both modes by that fact
-pub byte-sum : (a b k : ℕ) → a < 2 ^ 8 → b < 2 ^ 8 → k < 2 → low 8 (a + b + k) + 2 ^ 8 * carryInto 8 a b k ≡ a + b + k
-byte-sum = sum-at-width 8
+pub byte_sum : (a b k : ℕ) → a < 2 ^ 8 → b < 2 ^ 8 → k < 2 → low 8 (a + b + k) + 2 ^ 8 * carry_into 8 a b k ≡ a + b + k
+byte_sum = sum-at-width 8
 
-pub word_sum : (a b k : ℕ) → a < 2 ^ 16 → b < 2 ^ 16 → k < 2 → low 16 (a + b + k) + 2 ^ 16 * carryInto 16 a b k ≡ a + b + k
+pub word_sum : (a b k : ℕ) → a < 2 ^ 16 → b < 2 ^ 16 → k < 2 → low 16 (a + b + k) + 2 ^ 16 * carry_into 16 a b k ≡ a + b + k
 word_sum = sum-at-width 16
 
 -- The two carries and the signed range.
@@ -49,7 +49,7 @@ word_sum = sum-at-width 16
 -- a number below 2 ^ w is its top bit and the rest
 top_split : (w x : ℕ) → 0 < w → x < 2 ^ w → bit (w - 1) x * 2 ^ (w - 1) + x % 2 ^ (w - 1) ≡ x
 top_split w x wide h =
-    let l : x / 2 ^ (w - 1) < 2 = shr_lt 1 (w - 1) (omega (arith, pow-add 2 1 (w - 1), pow-half w wide)) in
+    let l : x / 2 ^ (w - 1) < 2 = shr_lt 1 (w - 1) (omega (arith, pow-add 2 1 (w - 1), pow_half w wide)) in
     ap (λ (y : ℕ). y * 2 ^ (w - 1) + x % 2 ^ (w - 1)) (mod-eq_of_lt l) ∙ div-add-mod' x (2 ^ (w - 1))
 
 -- by cases on the top bits of both operands and on both carries; h is the weight of the top bit and e the sum's rest below it
@@ -75,10 +75,10 @@ module _ (w : ℕ) (wide : 0 < w) (a b k status : ℕ) (ha : a < 2 ^ w) (hb : b 
 
   below-lt : below < 2 ^ w
   unfolding below
-  below-lt = omega (arith, pow-half w wide, low-lt (w - 1) a, low-lt (w - 1) b)
+  below-lt = omega (arith, pow_half w wide, low_lt (w - 1) a, low_lt (w - 1) b)
 
   -- the sum by its top bits, the carry into the top, and the rest
-  parts : (bit (w - 1) a + bit (w - 1) b + carryInto (w - 1) a b k) * 2 ^ (w - 1) + below % 2 ^ (w - 1) ≡ a + b + k
+  parts : (bit (w - 1) a + bit (w - 1) b + carry_into (w - 1) a b k) * 2 ^ (w - 1) + below % 2 ^ (w - 1) ≡ a + b + k
   unfolding below
   parts = omega (arith, top_split w a wide ha, top_split w b wide hb, top_split w below wide below-lt)
 
@@ -86,16 +86,16 @@ module _ (w : ℕ) (wide : 0 < w) (a b k status : ℕ) (ha : a < 2 ^ w) (hb : b 
   unfolding plus below
   plus-added = record {
     total = rw (plus-carry w a b k status) (sum-at-width w a b k ha hb hk);
-    in-range =
-        let c = carryInto w a b k in
-        let d = carryInto (w - 1) a b k in
+    in_range =
+        let c = carry_into w a b k in
+        let d = carry_into (w - 1) a b k in
         let p : low w (a + b + k) + 2 * 2 ^ (w - 1) * c ≡ (bit (w - 1) a + bit (w - 1) b + d) * 2 ^ (w - 1) + below % 2 ^ (w - 1) =
-        omega (arith, ap (λ (x : ℕ). x * c) (pow-half w wide), sum-at-width w a b k ha hb hk, parts) in
-        let y-lt : low w (a + b + k) < 2 * 2 ^ (w - 1) = omega (arith, pow-half w wide, low-lt w (a + b + k)) in
+        omega (arith, ap (λ (x : ℕ). x * c) (pow_half w wide), sum-at-width w a b k ha hb hk, parts) in
+        let y-lt : low w (a + b + k) < 2 * 2 ^ (w - 1) = omega (arith, pow_half w wide, low_lt w (a + b + k)) in
         rw (plus-overflow w a b k status)
-        (rw (parts, sym (pow-half w wide)) at
-        (two-carries (2 ^ (w - 1)) (below % 2 ^ (w - 1)) (low w (a + b + k)) (low-lt (w - 1) below) y-lt
-        (bit (w - 1) a) (bit (w - 1) b) c d (bit-lt (w - 1) a) (bit-lt (w - 1) b) (bit-lt w (low w a + low w b + k)) (bit-lt (w - 1) below) p));
+        (rw (parts, sym (pow_half w wide)) at
+        (two-carries (2 ^ (w - 1)) (below % 2 ^ (w - 1)) (low w (a + b + k)) (low_lt (w - 1) below) y-lt
+        (bit (w - 1) a) (bit (w - 1) b) c d (bit_lt (w - 1) a) (bit_lt (w - 1) b) (bit_lt w (low w a + low w b + k)) (bit_lt (w - 1) below) p));
   }
 
 -- The difference: the complement is what is left to 2 ^ w, less 1.
@@ -106,11 +106,11 @@ module _ (w : ℕ) (wide : 0 < w) (a b k status : ℕ) (ha : a < 2 ^ w) (hb : b 
   complement-is = rw (mod-eq_of_lt hb) (omega arith)
 
   added : Added w a (complement w b) k (plus w a (complement w b) k status)
-  added = plus-added w wide a (complement w b) k status ha (complement-lt w b) hk
+  added = plus-added w wide a (complement w b) k status ha (complement_lt w b) hk
 
   borrow : (y c : ℕ) → y < 2 ^ w → c < 2 → y + 2 ^ w * c + b + 1 ≡ a + k + 2 ^ w → (c ≡ 1) ↔ (b < a + k)
   borrow y c hy =
-      bit-cases (λ (c : ℕ). y + 2 ^ w * c + b + 1 ≡ a + k + 2 ^ w → (c ≡ 1) ↔ (b < a + k)) (λ e. omega arith) (λ e. omega arith) c
+      bit_cases (λ (c : ℕ). y + 2 ^ w * c + b + 1 ≡ a + k + 2 ^ w → (c ≡ 1) ↔ (b < a + k)) (λ e. omega arith) (λ e. omega arith) c
 
   -- both numbers moved by the complement
   shifted : (ta tb : ℕ) → ta < 2 → tb < 2
@@ -123,28 +123,28 @@ module _ (w : ℕ) (wide : 0 < w) (a b k status : ℕ) (ha : a < 2 ^ w) (hb : b 
   unfolding minus plus
   minus-taken =
       let o = plus w a (complement w b) k status in
-      let whole : o.result + 2 ^ w * storedC o.status + b + 1 ≡ a + k + 2 ^ w = omega (arith, added.total, complement-is) in
-      let turned = rw (bit-complement w (w - 1) b (omega arith)) at added.in-range in
-      let same = shifted (bit (w - 1) a) (bit (w - 1) b) (bit-lt (w - 1) a) (bit-lt (w - 1) b) in
+      let whole : o.result + 2 ^ w * stored_c o.status + b + 1 ≡ a + k + 2 ^ w = omega (arith, added.total, complement-is) in
+      let turned = rw (bit-complement w (w - 1) b (omega arith)) at added.in_range in
+      let same = shifted (bit (w - 1) a) (bit (w - 1) b) (bit_lt (w - 1) a) (bit_lt (w - 1) b) in
       record {
-        by-complement = added.total;
+        by_complement = added.total;
         total = whole;
-        unborrowed = borrow o.result (storedC o.status) (low-lt w (a + complement w b + k)) (bit-lt 1 o.status) whole;
-        in-range = ((λ z. same.0 (turned.0 z)), (λ z. turned.1 (same.1 z)));
+        unborrowed = borrow o.result (stored_c o.status) (low_lt w (a + complement w b + k)) (bit_lt 1 o.status) whole;
+        in_range = ((λ z. same.0 (turned.0 z)), (λ z. turned.1 (same.1 z)));
       }
 
 -- Over all operations.
 
 module _ (w : ℕ) (wide : 0 < w) (status : ℕ) where
   two-operand-meets : (kind : TwoOperandKind) (r s : ℕ) → r < 2 ^ w → s < 2 ^ w
-      → Meets w (twoOperandTerms kind r s (storedC status)) (twoOperand w kind r s status)
-  unfolding twoOperand
+      → Meets w (two_operand_terms kind r s (stored_c status)) (two_operand w kind r s status)
+  unfolding two_operand
   two-operand-meets SMinusR r s h l = minus-taken w wide s r 1 status l h (lit< tt)
-  two-operand-meets SMinusRWithCarry r s h l = minus-taken w wide s r (storedC status) status l h (bit-lt 1 status)
+  two-operand-meets SMinusRWithCarry r s h l = minus-taken w wide s r (stored_c status) status l h (bit_lt 1 status)
   two-operand-meets RMinusS r s h l = minus-taken w wide r s 1 status h l (lit< tt)
-  two-operand-meets RMinusSWithCarry r s h l = minus-taken w wide r s (storedC status) status h l (bit-lt 1 status)
+  two-operand-meets RMinusSWithCarry r s h l = minus-taken w wide r s (stored_c status) status h l (bit_lt 1 status)
   two-operand-meets RPlusS r s h l = plus-added w wide r s 0 status h l (lit< tt)
-  two-operand-meets RPlusSWithCarry r s h l = plus-added w wide r s (storedC status) status h l (bit-lt 1 status)
+  two-operand-meets RPlusSWithCarry r s h l = plus-added w wide r s (stored_c status) status h l (bit_lt 1 status)
   two-operand-meets And r s h l = tt
   two-operand-meets Nand r s h l = tt
   two-operand-meets Xor r s h l = tt
@@ -152,15 +152,15 @@ module _ (w : ℕ) (wide : 0 < w) (status : ℕ) where
   two-operand-meets Or r s h l = tt
   two-operand-meets Xnor r s h l = tt
 
-  one-operand-meets : (kind : OneOperandKind) (a : ℕ) → a < 2 ^ w → Meets w (oneOperandTerms kind a) (oneOperand w kind a status)
-  unfolding oneOperand
+  one-operand-meets : (kind : OneOperandKind) (a : ℕ) → a < 2 ^ w → Meets w (one_operand_terms kind a) (one_operand w kind a status)
+  unfolding one_operand
   one-operand-meets Move a h = tt
   one-operand-meets Complement a h = tt
   one-operand-meets Increment a h = plus-added w wide a 0 1 status h (pow_pos w) (lit< tt)
   one-operand-meets Negate a h = minus-taken w wide 0 a 1 status (pow_pos w) h (lit< tt)
 
-  bit-meets : (kind : BitKind) (n a : ℕ) → a < 2 ^ w → Meets w (bitTerms kind a (power w n)) (bitOperation w kind n a status)
-  unfolding bitOperation
+  bit-meets : (kind : BitKind) (n a : ℕ) → a < 2 ^ w → Meets w (bit_terms kind a (power w n)) (bit_operation w kind n a status)
+  unfolding bit_operation
   bit-meets SetBit n a h = tt
   bit-meets ResetBit n a h = tt
   bit-meets TestBit n a h = tt
@@ -170,11 +170,11 @@ module _ (w : ℕ) (wide : 0 < w) (status : ℕ) where
   bit-meets SubtractBit n a h = minus-taken w wide a (power w n) 1 status h (pow-lt (mod-lt n wide)) (lit< tt)
 
   -- every sum and difference has the result, C and OVR of its whole numbers
-  pub sums-meet : (operation : Operation) → Meets w (termsOf w operation status) (outcomeOf w operation status)
-  unfolding outcomeOf
-  sums-meet (TwoOperand kind r s) = two-operand-meets kind (low w r) (low w s) (low-lt w r) (low-lt w s)
-  sums-meet (OneOperand kind source) = one-operand-meets kind (low w source) (low-lt w source)
-  sums-meet (Bit kind n source) = bit-meets kind n (low w source) (low-lt w source)
+  pub sums-meet : (operation : Operation) → Meets w (terms_of w operation status) (outcome_of w operation status)
+  unfolding outcome_of
+  sums-meet (TwoOperand kind r s) = two-operand-meets kind (low w r) (low w s) (low_lt w r) (low_lt w s)
+  sums-meet (OneOperand kind source) = one-operand-meets kind (low w source) (low_lt w source)
+  sums-meet (Bit kind n source) = bit-meets kind n (low w source) (low_lt w source)
   sums-meet (Shift kind source) = tt
   sums-meet (Rotate n source) = tt
   sums-meet (Merge n u r mask) = tt
@@ -184,9 +184,9 @@ module _ (w : ℕ) (wide : 0 < w) (status : ℕ) where
   sums-meet (CrcReverse register acc) = tt
 
 -- with a carry in of 1: C is 1 exactly where no more is taken than there is
-pub enough : {w a b : ℕ} {o : Outcome} → Taken w a b 1 o → (storedC o.status ≡ 1) ↔ (b ≤ a)
+pub enough : {w a b : ℕ} {o : Outcome} → Taken w a b 1 o → (stored_c o.status ≡ 1) ↔ (b ≤ a)
 enough t = ((λ z. let h = t.unborrowed.0 z in omega arith), (λ h. t.unborrowed.1 (omega arith)))
 
 -- so x - x leaves C 1
-pub same-leaves-one : (w : ℕ) → 0 < w → (x status : ℕ) → storedC (outcomeOf w (TwoOperand RMinusS x x) status).status ≡ 1
-same-leaves-one w wide x status = (enough (sums-meet w wide status (TwoOperand RMinusS x x))).1 (le_refl (low w x))
+pub same_leaves_one : (w : ℕ) → 0 < w → (x status : ℕ) → stored_c (outcome_of w (TwoOperand RMinusS x x) status).status ≡ 1
+same_leaves_one w wide x status = (enough (sums-meet w wide status (TwoOperand RMinusS x x))).1 (le_refl (low w x))

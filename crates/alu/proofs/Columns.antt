@@ -21,49 +21,49 @@ use Rattle.alu.specs.declared.ShiftKind.TheVariants.{UpWithZero, UpWithOne, UpWi
 use Rattle.alu.specs.declared.Operation.{Operation}
 use Rattle.alu.specs.declared.Operation.TheVariants.{TwoOperand, OneOperand, Bit, Shift, Rotate, Merge, Compare, Prioritize, CrcForward, CrcReverse}
 use Rattle.alu.specs.Width.{bit, low, complement}
-use Rattle.alu.specs.Flags.{storedC, storedN, storedOVR, storedLINK, with_sign, plain, linked}
-use Rattle.alu.specs.Operations.{twoOperand, oneOperand, power, bitOperation, gated, movedUp, movedDown, shiftUp, shiftDown, shift, rotated, rotate, merge, compare, crcStep, crcForward, crcReverse, outcomeOf}
-use Rattle.alu.specs.Columns.{fromBelow, fromAbove, turned, twoOperandColumn, oneOperandColumn, bitColumn, shiftColumn, Column, leaving, reduced}
-use Rattle.alu.proofs.Fits.{low-lt}
+use Rattle.alu.specs.Flags.{stored_c, stored_n, stored_ovr, stored_link, with_sign, plain, linked}
+use Rattle.alu.specs.Operations.{two_operand, one_operand, power, bit_operation, gated, moved_up, moved_down, shift_up, shift_down, shift, rotated, rotate, merge, compare, crc_step, crc_forward, crc_reverse, outcome_of}
+use Rattle.alu.specs.Columns.{from_below, from_above, turned, TwoOperandColumn, OneOperandColumn, BitColumn, shift_column, Column, leaving, reduced}
+use Rattle.alu.proofs.Fits.{low_lt}
 use Rattle.alu.proofs.Changes.{linked-link}
-use Rattle.alu.proofs.Bits.{bit-cases, bits, bit-lt, bit-and, bit-or, bit-xor, bit-low, bit-shr, bit-lower, bit-upper, bit-of-bit, bit-zero, bit-complement}
+use Rattle.alu.proofs.Bits.{bit_cases, bits, bit_lt, bit_and_lem, bit_or_lem, bit_xor_lem, bit_low, bit_shr, bit_lower, bit_upper, bit_of_bit, bit_zero, bit-complement}
 
 -- Numbers below 2 ^ w, moved.
 
 next_bit : (i x : ℕ) → bit (suc i) x ≡ bit i (x / 2)
-next_bit i x = let e : suc i ≡ 1 + i = omega arith in ap (λ (j : ℕ). bit j x) e ∙ sym (bit-shr 1 i x)
+next_bit i x = let e : suc i ≡ 1 + i = omega arith in ap (λ (j : ℕ). bit j x) e ∙ sym (bit_shr 1 i x)
 
-bit-power : (i m : ℕ) → bit i (2 ^ m) ≡ pick (eqb i m) 1 0
-bit-power zero zero = refl
-bit-power zero (suc m) = rw (eqb-zero-suc m) (omega (arith, pow-suc 2 m))
-bit-power (suc i) zero =
+bit_power : (i m : ℕ) → bit i (2 ^ m) ≡ pick (eqb i m) 1 0
+bit_power zero zero = refl
+bit_power zero (suc m) = rw (eqb-zero-suc m) (omega (arith, pow-suc 2 m))
+bit_power (suc i) zero =
     rw (eqb-suc-zero i) (ap (λ (y : ℕ). y % 2) (div-eq_of_lt (pow-lt {i = 0} (suc-le-suc zero-le))))
-bit-power (suc i) (suc m) =
+bit_power (suc i) (suc m) =
     let e : 2 ^ suc m / 2 ≡ 2 ^ m = omega (arith, pow-suc 2 m) in
-    next_bit i (2 ^ suc m) ∙ ap (bit i) e ∙ bit-power i m ∙ rw (eqb-suc-suc i m)
+    next_bit i (2 ^ suc m) ∙ ap (bit i) e ∙ bit_power i m ∙ rw (eqb-suc-suc i m)
 
-up-column : (w i x coming : ℕ) → i < w → coming < 2 → bit i (movedUp w x coming) ≡ fromBelow coming x i
-unfolding movedUp
-up-column w zero x coming h l = bit-low w 0 (x * 2 + coming) h ∙ bit-lower 1 0 x coming (lit< tt) l ∙ bit-of-bit coming l
-up-column w (suc i) x coming h l =
+up_column : (w i x coming : ℕ) → i < w → coming < 2 → bit i (moved_up w x coming) ≡ from_below coming x i
+unfolding moved_up
+up_column w zero x coming h l = bit_low w 0 (x * 2 + coming) h ∙ bit_lower 1 0 x coming (lit< tt) l ∙ bit_of_bit coming l
+up_column w (suc i) x coming h l =
     let e : suc i ≡ 1 + i = omega arith in
-    bit-low w (suc i) (x * 2 + coming) h ∙ ap (λ (j : ℕ). bit j (x * 2 + coming)) e ∙ bit-upper 1 i x coming l
+    bit_low w (suc i) (x * 2 + coming) h ∙ ap (λ (j : ℕ). bit j (x * 2 + coming)) e ∙ bit_upper 1 i x coming l
 
-gated-is : (f x : ℕ) → f < 2 → gated f x ≡ f * x
-gated-is f x = bit-cases (λ (f : ℕ). gated f x ≡ f * x) (omega arith) (omega arith) f
+gated_is : (f x : ℕ) → f < 2 → gated f x ≡ f * x
+gated_is f x = bit_cases (λ (f : ℕ). gated f x ≡ f * x) (omega arith) (omega arith) f
 
 module _ (w i x coming : ℕ) (h : i < w) (hx : x < 2 ^ w) (l : coming < 2) where
-  down-bit : bit i (movedDown w x coming) ≡ bit (1 + i) (coming * 2 ^ w + x)
-  unfolding movedDown
-  down-bit = bit-shr 1 i (gated coming (2 ^ w) + x) ∙ ap (λ (g : ℕ). bit (1 + i) (g + x)) (gated-is coming (2 ^ w) l)
+  down-bit : bit i (moved_down w x coming) ≡ bit (1 + i) (coming * 2 ^ w + x)
+  unfolding moved_down
+  down-bit = bit_shr 1 i (gated coming (2 ^ w) + x) ∙ ap (λ (g : ℕ). bit (1 + i) (g + x)) (gated_is coming (2 ^ w) l)
 
   down_by : (top : Bool) → eqb (1 + i) w ≡ top → bit (1 + i) (coming * 2 ^ w + x) ≡ pick top coming (bit (1 + i) x)
   down_by true e =
       let t : 1 + i ≡ w + 0 = omega (arith, eqb-true (1 + i) w e) in
-      ap (λ (j : ℕ). bit j (coming * 2 ^ w + x)) t ∙ bit-upper w 0 coming x hx ∙ bit-of-bit coming l
-  down_by false e = bit-lower w (1 + i) coming x (omega (arith, eqb-false (1 + i) w e)) hx
+      ap (λ (j : ℕ). bit j (coming * 2 ^ w + x)) t ∙ bit_upper w 0 coming x hx ∙ bit_of_bit coming l
+  down_by false e = bit_lower w (1 + i) coming x (omega (arith, eqb-false (1 + i) w e)) hx
 
-  down-column : bit i (movedDown w x coming) ≡ fromAbove w coming x i
+  down-column : bit i (moved_down w x coming) ≡ from_above w coming x i
   down-column = down-bit ∙ down_by (eqb (1 + i) w) refl
 
 module _ (w n i x : ℕ) (h : i < w) (hx : x < 2 ^ w) where
@@ -80,8 +80,8 @@ module _ (w n i x : ℕ) (h : i < w) (hx : x < 2 ^ w) where
   turn_by true e =
       let l : i < n % w = ltb-true i (n % w) e in
       let p = places-lt in
-      bit-lower (n % w) i x (x / 2 ^ (w - n % w)) l left_lt
-      ∙ bit-shr (w - n % w) i x
+      bit_lower (n % w) i x (x / 2 ^ (w - n % w)) l left_lt
+      ∙ bit_shr (w - n % w) i x
       ∙ ap (λ (j : ℕ). bit j x) (sym (mod-eq_of_lt (omega arith) ∙ omega arith))
   turn_by false e =
       let l : n % w ≤ i = ltb-false i (n % w) e in
@@ -89,18 +89,18 @@ module _ (w n i x : ℕ) (h : i < w) (hx : x < 2 ^ w) where
       let there : n % w + (i - n % w) ≡ i = omega arith in
       let back : i + (w - n % w) ≡ (i - n % w) + w = omega arith in
       ap (λ (j : ℕ). bit j (x * 2 ^ (n % w) + x / 2 ^ (w - n % w))) (sym there)
-      ∙ bit-upper (n % w) (i - n % w) x (x / 2 ^ (w - n % w)) left_lt
+      ∙ bit_upper (n % w) (i - n % w) x (x / 2 ^ (w - n % w)) left_lt
       ∙ ap (λ (j : ℕ). bit j x) (sym (ap (λ (m : ℕ). m % w) back ∙ add-mod_right (i - n % w) w ∙ mod-eq_of_lt (omega arith)))
 
   turn-column : bit i (rotated w n x) ≡ turned w n x i
   unfolding rotated
-  turn-column = bit-low w i (x * 2 ^ (n % w) + x / 2 ^ (w - n % w)) h ∙ turn_by (ltb i (n % w)) refl
+  turn-column = bit_low w i (x * 2 ^ (n % w) + x / 2 ^ (w - n % w)) h ∙ turn_by (ltb i (n % w)) refl
 
 -- Single bits put together.
 
 merged : (u r mask : ℕ) → u < 2 → r < 2 → mask < 2 → bit_or (bit_and u mask) (bit_and r (1 - mask)) ≡ pick (eqb mask 1) u r
 merged u r mask hu hr =
-    bit-cases (λ (mask : ℕ). bit_or (bit_and u mask) (bit_and r (1 - mask)) ≡ pick (eqb mask 1) u r)
+    bit_cases (λ (mask : ℕ). bit_or (bit_and u mask) (bit_and r (1 - mask)) ≡ pick (eqb mask 1) u r)
     (bits (λ (u r : ℕ). bit_or (bit_and u 0) (bit_and r 1) ≡ r) refl refl refl refl u r hu hr)
     (bits (λ (u r : ℕ). bit_or (bit_and u 1) (bit_and r 0) ≡ u) refl refl refl refl u r hu hr) mask
 
@@ -108,25 +108,25 @@ unmasked : (d mask : ℕ) → d < 2 → mask < 2 → bit_and d (1 - mask) ≡ pi
 unmasked = bits (λ (d mask : ℕ). bit_and d (1 - mask) ≡ pick (eqb mask 1) 0 d) refl refl refl refl
 
 set_here : (here : Bool) (x : ℕ) → x < 2 → bit_or x (pick here 1 0) ≡ pick here 1 x
-set_here true = bit-cases (λ (x : ℕ). bit_or x 1 ≡ 1) refl refl
-set_here false = bit-cases (λ (x : ℕ). bit_or x 0 ≡ x) refl refl
+set_here true = bit_cases (λ (x : ℕ). bit_or x 1 ≡ 1) refl refl
+set_here false = bit_cases (λ (x : ℕ). bit_or x 0 ≡ x) refl refl
 
-reset-here : (here : Bool) (x : ℕ) → x < 2 → bit_and x (1 - pick here 1 0) ≡ pick here 0 x
-reset-here true = bit-cases (λ (x : ℕ). bit_and x 0 ≡ 0) refl refl
-reset-here false = bit-cases (λ (x : ℕ). bit_and x 1 ≡ x) refl refl
+reset_here : (here : Bool) (x : ℕ) → x < 2 → bit_and x (1 - pick here 1 0) ≡ pick here 0 x
+reset_here true = bit_cases (λ (x : ℕ). bit_and x 0 ≡ 0) refl refl
+reset_here false = bit_cases (λ (x : ℕ). bit_and x 1 ≡ x) refl refl
 
-test-here : (here : Bool) (x : ℕ) → x < 2 → bit_and x (pick here 1 0) ≡ pick here x 0
-test-here true = bit-cases (λ (x : ℕ). bit_and x 1 ≡ x) refl refl
-test-here false = bit-cases (λ (x : ℕ). bit_and x 0 ≡ 0) refl refl
+test_here : (here : Bool) (x : ℕ) → x < 2 → bit_and x (pick here 1 0) ≡ pick here x 0
+test_here true = bit_cases (λ (x : ℕ). bit_and x 1 ≡ x) refl refl
+test_here false = bit_cases (λ (x : ℕ). bit_and x 0 ≡ 0) refl refl
 
 load_here : (here : Bool) → 1 - pick here 1 0 ≡ pick here 0 1
 load_here true = refl
 load_here false = refl
 
-gated-bit : (i f x : ℕ) → f < 2 → bit i (gated f x) ≡ bit_and f (bit i x)
-gated-bit i f x l =
-    bit-cases (λ (f : ℕ). bit i (gated f x) ≡ bit_and f (bit i x)) (bit-of-zero i)
-    (sym (bit-cases (λ (y : ℕ). bit_and 1 y ≡ y) refl refl (bit i x) (bit-lt i x))) f l
+gated_bit : (i f x : ℕ) → f < 2 → bit i (gated f x) ≡ bit_and f (bit i x)
+gated_bit i f x l =
+    bit_cases (λ (f : ℕ). bit i (gated f x) ≡ bit_and f (bit i x)) (bit-of-zero i)
+    (sym (bit_cases (λ (y : ℕ). bit_and 1 y ≡ y) refl refl (bit i x) (bit_lt i x))) f l
   where
     bit-of-zero : (i : ℕ) → bit i 0 ≡ 0
     bit-of-zero i = ap (λ (y : ℕ). y % 2) (div-eq_of_lt (pow_pos i))
@@ -138,125 +138,125 @@ module _ (w i : ℕ) (h : i < w) where
   turned_bit y = bit-complement w i y h
 
   two-operand-column : (kind : TwoOperandKind) (r s status : ℕ)
-      → twoOperandColumn kind (bit i r) (bit i s) (bit i (twoOperand w kind r s status).result)
-  unfolding twoOperand plain with_sign
+      → TwoOperandColumn kind (bit i r) (bit i s) (bit i (two_operand w kind r s status).result)
+  unfolding two_operand plain with_sign
   two-operand-column SMinusR r s status = tt
   two-operand-column SMinusRWithCarry r s status = tt
   two-operand-column RMinusS r s status = tt
   two-operand-column RMinusSWithCarry r s status = tt
   two-operand-column RPlusS r s status = tt
   two-operand-column RPlusSWithCarry r s status = tt
-  two-operand-column And r s status = bit-and i r s
-  two-operand-column Nand r s status = turned_bit (bit_and r s) ∙ ap (λ (y : ℕ). 1 - y) (bit-and i r s)
-  two-operand-column Xor r s status = bit-xor i r s
-  two-operand-column Nor r s status = turned_bit (bit_or r s) ∙ ap (λ (y : ℕ). 1 - y) (bit-or i r s)
-  two-operand-column Or r s status = bit-or i r s
-  two-operand-column Xnor r s status = turned_bit (bit_xor r s) ∙ ap (λ (y : ℕ). 1 - y) (bit-xor i r s)
+  two-operand-column And r s status = bit_and_lem i r s
+  two-operand-column Nand r s status = turned_bit (bit_and r s) ∙ ap (λ (y : ℕ). 1 - y) (bit_and_lem i r s)
+  two-operand-column Xor r s status = bit_xor_lem i r s
+  two-operand-column Nor r s status = turned_bit (bit_or r s) ∙ ap (λ (y : ℕ). 1 - y) (bit_or_lem i r s)
+  two-operand-column Or r s status = bit_or_lem i r s
+  two-operand-column Xnor r s status = turned_bit (bit_xor r s) ∙ ap (λ (y : ℕ). 1 - y) (bit_xor_lem i r s)
 
-  one-operand-column : (kind : OneOperandKind) (x status : ℕ) → oneOperandColumn kind (bit i x) (bit i (oneOperand w kind x status).result)
-  unfolding oneOperand plain with_sign
+  one-operand-column : (kind : OneOperandKind) (x status : ℕ) → OneOperandColumn kind (bit i x) (bit i (one_operand w kind x status).result)
+  unfolding one_operand plain with_sign
   one-operand-column Move x status = refl
   one-operand-column Complement x status = turned_bit x
   one-operand-column Increment x status = tt
   one-operand-column Negate x status = tt
 
-  bit-column : (kind : BitKind) (n x status : ℕ) → bitColumn kind (eqb i (n % w)) (bit i x) (bit i (bitOperation w kind n x status).result)
-  unfolding bitOperation plain with_sign
+  bit-column : (kind : BitKind) (n x status : ℕ) → BitColumn kind (eqb i (n % w)) (bit i x) (bit i (bit_operation w kind n x status).result)
+  unfolding bit_operation plain with_sign
   bit-column SetBit n x status =
-      bit-or i x (power w n) ∙ ap (bit_or (bit i x)) (bit-power i (n % w)) ∙ set_here (eqb i (n % w)) (bit i x) (bit-lt i x)
+      bit_or_lem i x (power w n) ∙ ap (bit_or (bit i x)) (bit_power i (n % w)) ∙ set_here (eqb i (n % w)) (bit i x) (bit_lt i x)
   bit-column ResetBit n x status =
-      bit-and i x (complement w (power w n)) ∙ ap (bit_and (bit i x)) (turned_bit (power w n) ∙ ap (λ (y : ℕ). 1 - y) (bit-power i (n % w)))
-      ∙ reset-here (eqb i (n % w)) (bit i x) (bit-lt i x)
+      bit_and_lem i x (complement w (power w n)) ∙ ap (bit_and (bit i x)) (turned_bit (power w n) ∙ ap (λ (y : ℕ). 1 - y) (bit_power i (n % w)))
+      ∙ reset_here (eqb i (n % w)) (bit i x) (bit_lt i x)
   bit-column TestBit n x status =
-      bit-and i x (power w n) ∙ ap (bit_and (bit i x)) (bit-power i (n % w)) ∙ test-here (eqb i (n % w)) (bit i x) (bit-lt i x)
-  bit-column LoadBit n x status = bit-power i (n % w)
+      bit_and_lem i x (power w n) ∙ ap (bit_and (bit i x)) (bit_power i (n % w)) ∙ test_here (eqb i (n % w)) (bit i x) (bit_lt i x)
+  bit-column LoadBit n x status = bit_power i (n % w)
   bit-column LoadBitComplement n x status =
-      turned_bit (power w n) ∙ ap (λ (y : ℕ). 1 - y) (bit-power i (n % w)) ∙ load_here (eqb i (n % w))
+      turned_bit (power w n) ∙ ap (λ (y : ℕ). 1 - y) (bit_power i (n % w)) ∙ load_here (eqb i (n % w))
   bit-column AddBit n x status = tt
   bit-column SubtractBit n x status = tt
 
-  up-result : (x coming status : ℕ) → coming < 2 → bit i (shiftUp w x coming status).result ≡ fromBelow coming x i
-  unfolding shiftUp linked plain with_sign
-  up-result x coming status l = up-column w i x coming h l
+  up-result : (x coming status : ℕ) → coming < 2 → bit i (shift_up w x coming status).result ≡ from_below coming x i
+  unfolding shift_up linked plain with_sign
+  up-result x coming status l = up_column w i x coming h l
 
-  down-result : (x coming status : ℕ) → x < 2 ^ w → coming < 2 → bit i (shiftDown w x coming status).result ≡ fromAbove w coming x i
-  unfolding shiftDown linked plain with_sign
+  down-result : (x coming status : ℕ) → x < 2 ^ w → coming < 2 → bit i (shift_down w x coming status).result ≡ from_above w coming x i
+  unfolding shift_down linked plain with_sign
   down-result x coming status hx l = down-column w i x coming h hx l
 
-  shift-column : (kind : ShiftKind) (x status : ℕ) → x < 2 ^ w → bit i (shift w kind x status).result ≡ shiftColumn kind w status x i
+  shift-column : (kind : ShiftKind) (x status : ℕ) → x < 2 ^ w → bit i (shift w kind x status).result ≡ shift_column kind w status x i
   unfolding shift
   shift-column UpWithZero x status hx = up-result x 0 status (lit< tt)
   shift-column UpWithOne x status hx = up-result x 1 status (lit< tt)
-  shift-column UpWithLink x status hx = up-result x (storedLINK status) status (bit-lt 4 status)
+  shift-column UpWithLink x status hx = up-result x (stored_link status) status (bit_lt 4 status)
   shift-column DownWithZero x status hx = down-result x 0 status hx (lit< tt)
   shift-column DownWithOne x status hx = down-result x 1 status hx (lit< tt)
-  shift-column DownWithLink x status hx = down-result x (storedLINK status) status hx (bit-lt 4 status)
-  shift-column DownWithC x status hx = down-result x (storedC status) status hx (bit-lt 1 status)
+  shift-column DownWithLink x status hx = down-result x (stored_link status) status hx (bit_lt 4 status)
+  shift-column DownWithC x status hx = down-result x (stored_c status) status hx (bit_lt 1 status)
   shift-column DownWithNXorOvr x status hx =
-      down-result x (bit_xor (storedN status) (storedOVR status)) status hx
-      (xor_lt 1 (storedN status) (storedOVR status) (bit-lt 2 status) (bit-lt 3 status))
+      down-result x (bit_xor (stored_n status) (stored_ovr status)) status hx
+      (xor_lt 1 (stored_n status) (stored_ovr status) (bit_lt 2 status) (bit_lt 3 status))
 
   turned_lt : (n u : ℕ) → turned w n u i < 2
-  turned_lt n u = bit-lt ((i + (w - n % w)) % w) u
+  turned_lt n u = bit_lt ((i + (w - n % w)) % w) u
 
   merge-column : (n u r mask : ℕ) → u < 2 ^ w
       → bit i (bit_or (bit_and (rotated w n u) mask) (bit_and r (complement w mask))) ≡ pick (eqb (bit i mask) 1) (turned w n u i) (bit i r)
   merge-column n u r mask hu =
-      bit-or i (bit_and (rotated w n u) mask) (bit_and r (complement w mask))
+      bit_or_lem i (bit_and (rotated w n u) mask) (bit_and r (complement w mask))
       ∙ ap₂ bit_or
-      (bit-and i (rotated w n u) mask ∙ ap (λ (y : ℕ). bit_and y (bit i mask)) (turn-column w n i u h hu))
-      (bit-and i r (complement w mask) ∙ ap (bit_and (bit i r)) (turned_bit mask))
-      ∙ merged (turned w n u i) (bit i r) (bit i mask) (turned_lt n u) (bit-lt i r) (bit-lt i mask)
+      (bit_and_lem i (rotated w n u) mask ∙ ap (λ (y : ℕ). bit_and y (bit i mask)) (turn-column w n i u h hu))
+      (bit_and_lem i r (complement w mask) ∙ ap (bit_and (bit i r)) (turned_bit mask))
+      ∙ merged (turned w n u i) (bit i r) (bit i mask) (turned_lt n u) (bit_lt i r) (bit_lt i mask)
 
   compare-column : (n u r mask : ℕ) → u < 2 ^ w
       → bit i (bit_and (bit_xor r (rotated w n u)) (complement w mask)) ≡ pick (eqb (bit i mask) 1) 0 (bit_xor (bit i r) (turned w n u i))
   compare-column n u r mask hu =
-      bit-and i (bit_xor r (rotated w n u)) (complement w mask)
-      ∙ ap₂ bit_and (bit-xor i r (rotated w n u) ∙ ap (bit_xor (bit i r)) (turn-column w n i u h hu)) (turned_bit mask)
-      ∙ unmasked (bit_xor (bit i r) (turned w n u i)) (bit i mask) (xor_lt 1 (bit i r) (turned w n u i) (bit-lt i r) (turned_lt n u)) (bit-lt i mask)
+      bit_and_lem i (bit_xor r (rotated w n u)) (complement w mask)
+      ∙ ap₂ bit_and (bit_xor_lem i r (rotated w n u) ∙ ap (bit_xor (bit i r)) (turn-column w n i u h hu)) (turned_bit mask)
+      ∙ unmasked (bit_xor (bit i r) (turned w n u i)) (bit i mask) (xor_lt 1 (bit i r) (turned w n u i) (bit_lt i r) (turned_lt n u)) (bit_lt i mask)
 
   step-column : (moved out acc status : ℕ) → out < 2
-      → bit i (crcStep w moved out acc status).result ≡ bit_xor (bit i moved) (bit_and (bit_xor (storedLINK status) out) (bit i acc))
-  unfolding crcStep linked plain with_sign
+      → bit i (crc_step w moved out acc status).result ≡ bit_xor (bit i moved) (bit_and (bit_xor (stored_link status) out) (bit i acc))
+  unfolding crc_step linked plain with_sign
   step-column moved out acc status l =
-      let f = bit_xor (storedLINK status) out in
-      bit-xor i moved (gated f acc) ∙ ap (bit_xor (bit i moved)) (gated-bit i f acc (xor_lt 1 (storedLINK status) out (bit-lt 4 status) l))
+      let f = bit_xor (stored_link status) out in
+      bit_xor_lem i moved (gated f acc) ∙ ap (bit_xor (bit i moved)) (gated_bit i f acc (xor_lt 1 (stored_link status) out (bit_lt 4 status) l))
 
   -- bit i of every result, from the operands' parts at the width
-  pub columns : (operation : Operation) (status : ℕ) → Column w (reduced w operation) status i (bit i (outcomeOf w operation status).result)
-  unfolding outcomeOf rotate merge compare crcForward crcReverse linked plain with_sign
+  pub columns : (operation : Operation) (status : ℕ) → Column w (reduced w operation) status i (bit i (outcome_of w operation status).result)
+  unfolding outcome_of rotate merge compare crc_forward crc_reverse linked plain with_sign
   columns (TwoOperand kind r s) status = two-operand-column kind (low w r) (low w s) status
   columns (OneOperand kind source) status = one-operand-column kind (low w source) status
   columns (Bit kind n source) status = bit-column kind n (low w source) status
-  columns (Shift kind source) status = shift-column kind (low w source) status (low-lt w source)
-  columns (Rotate n source) status = turn-column w n i (low w source) h (low-lt w source)
-  columns (Merge n u r mask) status = merge-column n (low w u) (low w r) (low w mask) (low-lt w u)
-  columns (Compare n u r mask) status = compare-column n (low w u) (low w r) (low w mask) (low-lt w u)
+  columns (Shift kind source) status = shift-column kind (low w source) status (low_lt w source)
+  columns (Rotate n source) status = turn-column w n i (low w source) h (low_lt w source)
+  columns (Merge n u r mask) status = merge-column n (low w u) (low w r) (low w mask) (low_lt w u)
+  columns (Compare n u r mask) status = compare-column n (low w u) (low w r) (low w mask) (low_lt w u)
   columns (Prioritize source mask) status = tt
   columns (CrcForward register acc) status =
       let x = low w register in
-      step-column (movedUp w x 0) (bit (w - 1) x) (low w acc) status (bit-lt (w - 1) x)
-      ∙ ap (λ (y : ℕ). bit_xor y (bit_and (bit_xor (storedLINK status) (bit (w - 1) x)) (bit i (low w acc)))) (up-column w i x 0 h (lit< tt))
+      step-column (moved_up w x 0) (bit (w - 1) x) (low w acc) status (bit_lt (w - 1) x)
+      ∙ ap (λ (y : ℕ). bit_xor y (bit_and (bit_xor (stored_link status) (bit (w - 1) x)) (bit i (low w acc)))) (up_column w i x 0 h (lit< tt))
   columns (CrcReverse register acc) status =
       let x = low w register in
-      step-column (movedDown w x 0) (x % 2) (low w acc) status (mod-lt x (lit< tt))
-      ∙ ap₂ (λ (y out : ℕ). bit_xor y (bit_and (bit_xor (storedLINK status) out) (bit i (low w acc))))
-      (down-column w i x 0 h (low-lt w register) (lit< tt)) (sym (bit-zero x))
+      step-column (moved_down w x 0) (x % 2) (low w acc) status (mod-lt x (lit< tt))
+      ∙ ap₂ (λ (y out : ℕ). bit_xor y (bit_and (bit_xor (stored_link status) out) (bit i (low w acc))))
+      (down-column w i x 0 h (low_lt w register) (lit< tt)) (sym (bit_zero x))
 
 -- LINK after a move.
 
 module _ (w status : ℕ) where
-  link-takes : (out y : ℕ) → out < 2 → storedLINK (linked out (plain w y status)).status ≡ out
+  link-takes : (out y : ℕ) → out < 2 → stored_link (linked out (plain w y status)).status ≡ out
   link-takes out y h = linked-link out (plain w y status) ∙ mod-eq_of_lt h
 
-  link-takes-lowest : (x y : ℕ) → storedLINK (linked (x % 2) (plain w y status)).status ≡ bit 0 x
-  link-takes-lowest x y = link-takes (x % 2) y (mod-lt x (lit< tt)) ∙ sym (bit-zero x)
+  link-takes-lowest : (x y : ℕ) → stored_link (linked (x % 2) (plain w y status)).status ≡ bit 0 x
+  link-takes-lowest x y = link-takes (x % 2) y (mod-lt x (lit< tt)) ∙ sym (bit_zero x)
 
-  shift-link : (kind : ShiftKind) (x : ℕ) → storedLINK (shift w kind x status).status ≡ leaving kind w x
-  unfolding shift shiftUp shiftDown
-  shift-link UpWithZero x = link-takes (bit (w - 1) x) _ (bit-lt (w - 1) x)
-  shift-link UpWithOne x = link-takes (bit (w - 1) x) _ (bit-lt (w - 1) x)
-  shift-link UpWithLink x = link-takes (bit (w - 1) x) _ (bit-lt (w - 1) x)
+  shift-link : (kind : ShiftKind) (x : ℕ) → stored_link (shift w kind x status).status ≡ leaving kind w x
+  unfolding shift shift_up shift_down
+  shift-link UpWithZero x = link-takes (bit (w - 1) x) _ (bit_lt (w - 1) x)
+  shift-link UpWithOne x = link-takes (bit (w - 1) x) _ (bit_lt (w - 1) x)
+  shift-link UpWithLink x = link-takes (bit (w - 1) x) _ (bit_lt (w - 1) x)
   shift-link DownWithZero x = link-takes-lowest x _
   shift-link DownWithOne x = link-takes-lowest x _
   shift-link DownWithLink x = link-takes-lowest x _
@@ -264,16 +264,16 @@ module _ (w status : ℕ) where
   shift-link DownWithNXorOvr x = link-takes-lowest x _
 
   pub link-after-shift : (kind : ShiftKind) (source : ℕ)
-      → storedLINK (outcomeOf w (Shift kind source) status).status ≡ leaving kind w (low w source)
-  unfolding outcomeOf
+      → stored_link (outcome_of w (Shift kind source) status).status ≡ leaving kind w (low w source)
+  unfolding outcome_of
   link-after-shift kind source = shift-link kind (low w source)
 
   pub link-after-forward : (register acc : ℕ)
-      → storedLINK (outcomeOf w (CrcForward register acc) status).status ≡ bit (w - 1) (low w register)
-  unfolding outcomeOf crcForward crcStep
-  link-after-forward register acc = link-takes (bit (w - 1) (low w register)) _ (bit-lt (w - 1) (low w register))
+      → stored_link (outcome_of w (CrcForward register acc) status).status ≡ bit (w - 1) (low w register)
+  unfolding outcome_of crc_forward crc_step
+  link-after-forward register acc = link-takes (bit (w - 1) (low w register)) _ (bit_lt (w - 1) (low w register))
 
   pub link-after-reverse : (register acc : ℕ)
-      → storedLINK (outcomeOf w (CrcReverse register acc) status).status ≡ bit 0 (low w register)
-  unfolding outcomeOf crcReverse crcStep
+      → stored_link (outcome_of w (CrcReverse register acc) status).status ≡ bit 0 (low w register)
+  unfolding outcome_of crc_reverse crc_step
   link-after-reverse register acc = link-takes-lowest (low w register) _

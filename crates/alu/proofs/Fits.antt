@@ -13,53 +13,53 @@ use Rattle.alu.specs.declared.Mode.TheVariants.{Byte, Word}
 use Rattle.alu.specs.Width.{width_of, low, complement}
 use Rattle.alu.specs.Bounds.{IsWidth}
 
-pub width-at-most-16 : (mode : Mode) → width_of mode ≤ 16
-width-at-most-16 Byte = lit≤ tt
-width-at-most-16 Word = lit≤ tt
+pub width_at_most_16 : (mode : Mode) → width_of mode ≤ 16
+width_at_most_16 Byte = lit≤ tt
+width_at_most_16 Word = lit≤ tt
 
 pub width_positive : (mode : Mode) → 0 < width_of mode
 width_positive Byte = lit< tt
 width_positive Word = lit< tt
 
-pub low-lt : (w x : ℕ) → low w x < 2 ^ w
-low-lt w x = mod-lt x (pow_pos w)
+pub low_lt : (w x : ℕ) → low w x < 2 ^ w
+low_lt w x = mod-lt x (pow_pos w)
 
-pub complement-lt : (w x : ℕ) → complement w x < 2 ^ w
+pub complement_lt : (w x : ℕ) → complement w x < 2 ^ w
 unfolding complement
-complement-lt w x = ones_sub-lt w (low w x)
+complement_lt w x = ones_sub-lt w (low w x)
 
-pub unmasked-low : (w source mask : ℕ) → low w (bit_and (low w source) (complement w mask)) ≡ bit_and (low w source) (complement w mask)
-unmasked-low w source mask = mod-eq_of_lt (and_lt w (low w source) (complement w mask) (low-lt w source) (complement-lt w mask))
+pub unmasked_low : (w source mask : ℕ) → low w (bit_and (low w source) (complement w mask)) ≡ bit_and (low w source) (complement w mask)
+unmasked_low w source mask = mod-eq_of_lt (and_lt w (low w source) (complement w mask) (low_lt w source) (complement_lt w mask))
 
 -- a word moved up by at most 16 places, and a word below it
-pub moved-fits : (a b left : ℕ) → a < 65536 → b ≤ 65536 → left ≤ a → a * b + left < 4294967296
-moved-fits a b left h l m =
+pub moved_fits : (a b left : ℕ) → a < 65536 → b ≤ 65536 → left ≤ a → a * b + left < 4294967296
+moved_fits a b left h l m =
     let p : a * b ≤ a * 65536 = mul-le-mul_left a l in
     omega arith
 
 -- an upper part that stays, and any part below it
-pub kept-fits : (w old part : ℕ) → w ≤ 16 → old < 65536 → part < 2 ^ w → old / 2 ^ w * 2 ^ w + part < 65536
-kept-fits w old part l h p =
+pub kept_fits : (w old part : ℕ) → w ≤ 16 → old < 65536 → part < 2 ^ w → old / 2 ^ w * 2 ^ w + part < 65536
+kept_fits w old part l h p =
     let e : (16 - w) + w ≡ 16 = omega arith in
     subst (λ (x : ℕ). old / 2 ^ w * 2 ^ w + part < x) (sym (pow-add 2 (16 - w) w) ∙ ap (λ (x : ℕ). 2 ^ x) e)
     (digits_lt (shr_lt (16 - w) w (subst (λ (x : ℕ). old < 2 ^ x) (sym e) h)) p)
 
-pub write-back-fits : (mode : Mode) (old size part : ℕ) → old < 65536 → size ≡ 2 ^ width_of mode → part < 2 ^ width_of mode
+pub write_back_fits : (mode : Mode) (old size part : ℕ) → old < 65536 → size ≡ 2 ^ width_of mode → part < 2 ^ width_of mode
     → old / size * size + part < 65536
-write-back-fits mode old size part h e p = rw e (kept-fits (width_of mode) old part (width-at-most-16 mode) h p)
+write_back_fits mode old size part h e p = rw e (kept_fits (width_of mode) old part (width_at_most_16 mode) h p)
 
 -- zeros above a narrow number, counted in 16 bits
-pub zeros-narrow : (w a : ℕ) → w ≤ 16 → a < 2 ^ w → count_leading_zeros w a + (16 - w) ≡ count_leading_zeros 16 a
-zeros-narrow w a l h =
+pub zeros_narrow : (w a : ℕ) → w ≤ 16 → a < 2 ^ w → count_leading_zeros w a + (16 - w) ≡ count_leading_zeros 16 a
+zeros_narrow w a l h =
     let t = leading_length w a h in
     let e : count_leading_zeros w a + t.0 ≡ w = t.1 in
     leading_unique 16 a (count_leading_zeros w a + (16 - w)) t.0 (omega arith) t.2 t.3
 
 -- the same as the code counts them
-pub zeros-counted : (mode : Mode) (x part width : ℕ) → IsWidth mode width → part ≡ low (width_of mode) x
+pub zeros_counted : (mode : Mode) (x part width : ℕ) → IsWidth mode width → part ≡ low (width_of mode) x
     → (16 ≤ count_leading_zeros 16 part + 1 + width) × (count_leading_zeros 16 part + 1 + width - 16 ≡ count_leading_zeros width part + 1)
-zeros-counted mode x part width w e =
-    let l : part < 2 ^ width = rw (e, w.is) (low-lt (width_of mode) x) in
-    let z = zeros-narrow width part w.room l in
+zeros_counted mode x part width w e =
+    let l : part < 2 ^ width = rw (e, w.is) (low_lt (width_of mode) x) in
+    let z = zeros_narrow width part w.room l in
     let r = w.room in
     omega arith

@@ -4,38 +4,38 @@ use Prim.Native.Nat.{ℕ, ◌-◌, ◌*◌, ◌%◌, ◌^◌, ◌<◌}
 use native.Mathlib.Nat.{add-zero}
 use lib.Bits.{bit_xor, xor_lt, xor_mod, xor_self, xor_zero_r}
 use Rattle.alu.specs.Width.{bit}
-use Rattle.alu.specs.Flags.{storedLINK, plain, linked, with_sign}
-use Rattle.alu.specs.Operations.{gated, movedUp, crcStep, crcForward}
-use Rattle.alu.proofs.Bits.{bits, bit-lt, bit-xor}
-use Rattle.alu.proofs.Xors.{xor-exchange, xor-shl}
+use Rattle.alu.specs.Flags.{stored_link, plain, linked, with_sign}
+use Rattle.alu.specs.Operations.{gated, moved_up, crc_step, crc_forward}
+use Rattle.alu.proofs.Bits.{bits, bit_lt, bit_xor_lem}
+use Rattle.alu.proofs.Xors.{xor_exchange, xor_shl}
 
-up-linear : (w r s : ℕ) → movedUp w (bit_xor r s) 0 ≡ bit_xor (movedUp w r 0) (movedUp w s 0)
-unfolding movedUp
-up-linear w r s = simp add-zero (ap (λ (x : ℕ). x % 2 ^ w) (sym (xor-shl r s 1)) ∙ xor_mod (r * 2) (s * 2) w)
+up_linear : (w r s : ℕ) → moved_up w (bit_xor r s) 0 ≡ bit_xor (moved_up w r 0) (moved_up w s 0)
+unfolding moved_up
+up_linear w r s = simp add-zero (ap (λ (x : ℕ). x % 2 ^ w) (sym (xor_shl r s 1)) ∙ xor_mod (r * 2) (s * 2) w)
 
-gated-linear : (acc f g : ℕ) → f < 2 → g < 2 → gated (bit_xor f g) acc ≡ bit_xor (gated f acc) (gated g acc)
-gated-linear acc = bits (λ (f g : ℕ). gated (bit_xor f g) acc ≡ bit_xor (gated f acc) (gated g acc)) refl refl (sym (xor_zero_r acc)) (sym (xor_self acc))
+gated_linear : (acc f g : ℕ) → f < 2 → g < 2 → gated (bit_xor f g) acc ≡ bit_xor (gated f acc) (gated g acc)
+gated_linear acc = bits (λ (f g : ℕ). gated (bit_xor f g) acc ≡ bit_xor (gated f acc) (gated g acc)) refl refl (sym (xor_zero_r acc)) (sym (xor_self acc))
 
 module _ (w acc : ℕ) where
   -- whether ACC comes over the register: it does where LINK and the bit that leaves differ
   abbrev pub fed : ℕ → ℕ → ℕ
-  fed register status = bit_xor (storedLINK status) (bit (w - 1) register)
+  fed register status = bit_xor (stored_link status) (bit (w - 1) register)
 
   pub fed-lt : (register status : ℕ) → fed register status < 2
-  fed-lt register status = xor_lt 1 (storedLINK status) (bit (w - 1) register) (bit-lt 4 status) (bit-lt (w - 1) register)
+  fed-lt register status = xor_lt 1 (stored_link status) (bit (w - 1) register) (bit_lt 4 status) (bit_lt (w - 1) register)
 
-  pub step_is : (register status : ℕ) → (crcForward w register acc status).result ≡ bit_xor (movedUp w register 0) (gated (fed register status) acc)
-  unfolding plain linked with_sign crcStep crcForward
+  pub step_is : (register status : ℕ) → (crc_forward w register acc status).result ≡ bit_xor (moved_up w register 0) (gated (fed register status) acc)
+  unfolding plain linked with_sign crc_step crc_forward
   step_is register status = refl
 
-  module _ (r s p q both : ℕ) (link : storedLINK both ≡ bit_xor (storedLINK p) (storedLINK q)) where
+  module _ (r s p q both : ℕ) (link : stored_link both ≡ bit_xor (stored_link p) (stored_link q)) where
     fed-linear : fed (bit_xor r s) both ≡ bit_xor (fed r p) (fed s q)
-    fed-linear = ap₂ bit_xor link (bit-xor (w - 1) r s) ∙ xor-exchange (storedLINK p) (storedLINK q) (bit (w - 1) r) (bit (w - 1) s)
+    fed-linear = ap₂ bit_xor link (bit_xor_lem (w - 1) r s) ∙ xor_exchange (stored_link p) (stored_link q) (bit (w - 1) r) (bit (w - 1) s)
 
-    pub crc-linear : (crcForward w (bit_xor r s) acc both).result ≡ bit_xor (crcForward w r acc p).result (crcForward w s acc q).result
+    pub crc-linear : (crc_forward w (bit_xor r s) acc both).result ≡ bit_xor (crc_forward w r acc p).result (crc_forward w s acc q).result
     crc-linear =
         step_is (bit_xor r s) both
-        ∙ ap₂ (λ (m f : ℕ). bit_xor m (gated f acc)) (up-linear w r s) fed-linear
-        ∙ ap (bit_xor (bit_xor (movedUp w r 0) (movedUp w s 0))) (gated-linear acc (fed r p) (fed s q) (fed-lt r p) (fed-lt s q))
-        ∙ xor-exchange (movedUp w r 0) (movedUp w s 0) (gated (fed r p) acc) (gated (fed s q) acc)
+        ∙ ap₂ (λ (m f : ℕ). bit_xor m (gated f acc)) (up_linear w r s) fed-linear
+        ∙ ap (bit_xor (bit_xor (moved_up w r 0) (moved_up w s 0))) (gated_linear acc (fed r p) (fed s q) (fed-lt r p) (fed-lt s q))
+        ∙ xor_exchange (moved_up w r 0) (moved_up w s 0) (gated (fed r p) acc) (gated (fed s q) acc)
         ∙ sym (ap₂ bit_xor (step_is r p) (step_is s q))

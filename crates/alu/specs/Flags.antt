@@ -4,25 +4,25 @@ use Rattle.alu.specs.declared.Outcome.{Outcome}
 use Rattle.alu.specs.Width.{bit, low}
 
 -- what a status byte holds
-abbrev pub storedC : ℕ → ℕ
-storedC status = bit 1 status
+abbrev pub stored_c : ℕ → ℕ
+stored_c status = bit 1 status
 
-abbrev pub storedN : ℕ → ℕ
-storedN status = bit 2 status
+abbrev pub stored_n : ℕ → ℕ
+stored_n status = bit 2 status
 
-abbrev pub storedOVR : ℕ → ℕ
-storedOVR status = bit 3 status
+abbrev pub stored_ovr : ℕ → ℕ
+stored_ovr status = bit 3 status
 
-abbrev pub storedLINK : ℕ → ℕ
-storedLINK status = bit 4 status
+abbrev pub stored_link : ℕ → ℕ
+stored_link status = bit 4 status
 
 -- Z: 1 where the part at the width is 0, else 0 (document 01, what the instructions do); a difference of naturals stops at 0
 abbrev pub zero_flag : ℕ → ℕ → ℕ
 zero_flag w result = 1 - low w result
 
 -- N: the top bit at the width (document 01, what the instructions do)
-abbrev pub signFlag : ℕ → ℕ → ℕ
-signFlag w result = bit (w - 1) result
+abbrev pub sign_flag : ℕ → ℕ → ℕ
+sign_flag w result = bit (w - 1) result
 
 -- the old status with new Z, C, N and OVR, each one bit; bits 4 to 7 stay
 unfoldable pub flagged : ℕ → ℕ → ℕ → ℕ → ℕ → ℕ
@@ -34,7 +34,7 @@ with_sign w n result status = record { result = result; status = flagged (zero_f
 
 -- the same with N its top bit
 unfoldable pub plain : ℕ → ℕ → ℕ → Outcome
-plain w result status = with_sign w (signFlag w result) result status
+plain w result status = with_sign w (sign_flag w result) result status
 
 -- an outcome whose LINK is the bit shifted out (document 01, shifts)
 unfoldable pub linked : ℕ → Outcome → Outcome

@@ -16,39 +16,39 @@ pub data Kind : Type 0 where
   Unsigned : Kind
   Moved : Kind
 
-abbrev pub twoOperandKind : TwoOperandKind → Kind
-twoOperandKind SMinusR = Sum
-twoOperandKind SMinusRWithCarry = Sum
-twoOperandKind RMinusS = Sum
-twoOperandKind RMinusSWithCarry = Sum
-twoOperandKind RPlusS = Sum
-twoOperandKind RPlusSWithCarry = Sum
-twoOperandKind And = Plain
-twoOperandKind Nand = Plain
-twoOperandKind Xor = Plain
-twoOperandKind Nor = Plain
-twoOperandKind Or = Plain
-twoOperandKind Xnor = Unsigned
+abbrev pub two_operand_kind : TwoOperandKind → Kind
+two_operand_kind SMinusR = Sum
+two_operand_kind SMinusRWithCarry = Sum
+two_operand_kind RMinusS = Sum
+two_operand_kind RMinusSWithCarry = Sum
+two_operand_kind RPlusS = Sum
+two_operand_kind RPlusSWithCarry = Sum
+two_operand_kind And = Plain
+two_operand_kind Nand = Plain
+two_operand_kind Xor = Plain
+two_operand_kind Nor = Plain
+two_operand_kind Or = Plain
+two_operand_kind Xnor = Unsigned
 
-abbrev pub oneOperandKind : OneOperandKind → Kind
-oneOperandKind Move = Plain
-oneOperandKind Complement = Plain
-oneOperandKind Increment = Sum
-oneOperandKind Negate = Sum
+abbrev pub one_operand_kind : OneOperandKind → Kind
+one_operand_kind Move = Plain
+one_operand_kind Complement = Plain
+one_operand_kind Increment = Sum
+one_operand_kind Negate = Sum
 
-abbrev pub bitKind : BitKind → Kind
-bitKind SetBit = Plain
-bitKind ResetBit = Plain
-bitKind TestBit = Plain
-bitKind LoadBit = Plain
-bitKind LoadBitComplement = Plain
-bitKind AddBit = Sum
-bitKind SubtractBit = Sum
+abbrev pub bit_kind : BitKind → Kind
+bit_kind SetBit = Plain
+bit_kind ResetBit = Plain
+bit_kind TestBit = Plain
+bit_kind LoadBit = Plain
+bit_kind LoadBitComplement = Plain
+bit_kind AddBit = Sum
+bit_kind SubtractBit = Sum
 
 abbrev pub kind_of : Operation → Kind
-kind_of (TwoOperand kind r s) = twoOperandKind kind
-kind_of (OneOperand kind source) = oneOperandKind kind
-kind_of (Bit kind n source) = bitKind kind
+kind_of (TwoOperand kind r s) = two_operand_kind kind
+kind_of (OneOperand kind source) = one_operand_kind kind
+kind_of (Bit kind n source) = bit_kind kind
 kind_of (Shift kind source) = Moved
 kind_of (Rotate n source) = Plain
 kind_of (Merge n u r mask) = Plain
@@ -58,20 +58,20 @@ kind_of (CrcForward register acc) = Moved
 kind_of (CrcReverse register acc) = Moved
 
 -- whether LINK stays, C and OVR become 0, and N is the top bit of the result (document 01, what the instructions do)
-abbrev pub keepsLink : Kind → Bool
-keepsLink Sum = true
-keepsLink Plain = true
-keepsLink Unsigned = true
-keepsLink Moved = false
+abbrev pub keeps_link : Kind → Bool
+keeps_link Sum = true
+keeps_link Plain = true
+keeps_link Unsigned = true
+keeps_link Moved = false
 
-abbrev pub clearsCarry : Kind → Bool
-clearsCarry Sum = false
-clearsCarry Plain = true
-clearsCarry Unsigned = true
-clearsCarry Moved = true
+abbrev pub clears_carry : Kind → Bool
+clears_carry Sum = false
+clears_carry Plain = true
+clears_carry Unsigned = true
+clears_carry Moved = true
 
-abbrev pub showsSign : Kind → Bool
-showsSign Sum = true
-showsSign Plain = true
-showsSign Unsigned = false
-showsSign Moved = true
+abbrev pub shows_sign : Kind → Bool
+shows_sign Sum = true
+shows_sign Plain = true
+shows_sign Unsigned = false
+shows_sign Moved = true

@@ -10,7 +10,7 @@ use Rattle.alu.specs.declared.BitKind.TheVariants.{SetBit, ResetBit, TestBit, Lo
 use Rattle.alu.specs.declared.Operation.{Operation}
 use Rattle.alu.specs.declared.Operation.TheVariants.{TwoOperand, OneOperand, Bit, Shift, Rotate, Merge, Compare, Prioritize, CrcForward, CrcReverse}
 use Rattle.alu.specs.Width.{bit, low, complement}
-use Rattle.alu.specs.Flags.{storedC, storedOVR}
+use Rattle.alu.specs.Flags.{stored_c, stored_ovr}
 use Rattle.alu.specs.Operations.{power}
 
 -- above - below, a whole number that may be negative, lies in the signed range of the width: from -2^(w-1) to 2^(w-1) - 1
@@ -23,15 +23,15 @@ negative w x = bit (w - 1) x * 2 ^ w
 
 -- a + b + k: the result and C are its value, and OVR says that the signed value is out of range
 pub record Added (w a b k : ℕ) (o : Outcome) : Type 0 where
-  pub total : o.result + 2 ^ w * storedC o.status ≡ a + b + k
-  pub in-range : (storedOVR o.status ≡ 0) ↔ InRange w (a + b + k) (negative w a + negative w b)
+  pub total : o.result + 2 ^ w * stored_c o.status ≡ a + b + k
+  pub in_range : (stored_ovr o.status ≡ 0) ↔ InRange w (a + b + k) (negative w a + negative w b)
 
 -- a - b, less 1 where k is 0: C is 1 exactly when nothing is borrowed
 pub record Taken (w a b k : ℕ) (o : Outcome) : Type 0 where
-  pub by-complement : o.result + 2 ^ w * storedC o.status ≡ a + complement w b + k
-  pub total : o.result + 2 ^ w * storedC o.status + b + 1 ≡ a + k + 2 ^ w
-  pub unborrowed : (storedC o.status ≡ 1) ↔ (b < a + k)
-  pub in-range : (storedOVR o.status ≡ 0) ↔ InRange w (a + k + negative w b) (b + 1 + negative w a)
+  pub by_complement : o.result + 2 ^ w * stored_c o.status ≡ a + complement w b + k
+  pub total : o.result + 2 ^ w * stored_c o.status + b + 1 ≡ a + k + 2 ^ w
+  pub unborrowed : (stored_c o.status ≡ 1) ↔ (b < a + k)
+  pub in_range : (stored_ovr o.status ≡ 0) ↔ InRange w (a + k + negative w b) (b + 1 + negative w a)
 
 -- what an operation adds, or takes from what; most do neither
 pub data Terms : Type 0 where
@@ -39,46 +39,46 @@ pub data Terms : Type 0 where
   takes : (a b k : ℕ) → Terms
   neither : Terms
 
-abbrev pub twoOperandTerms : TwoOperandKind → ℕ → ℕ → ℕ → Terms
-twoOperandTerms SMinusR r s stored = takes s r 1
-twoOperandTerms SMinusRWithCarry r s stored = takes s r stored
-twoOperandTerms RMinusS r s stored = takes r s 1
-twoOperandTerms RMinusSWithCarry r s stored = takes r s stored
-twoOperandTerms RPlusS r s stored = adds r s 0
-twoOperandTerms RPlusSWithCarry r s stored = adds r s stored
-twoOperandTerms And r s stored = neither
-twoOperandTerms Nand r s stored = neither
-twoOperandTerms Xor r s stored = neither
-twoOperandTerms Nor r s stored = neither
-twoOperandTerms Or r s stored = neither
-twoOperandTerms Xnor r s stored = neither
+abbrev pub two_operand_terms : TwoOperandKind → ℕ → ℕ → ℕ → Terms
+two_operand_terms SMinusR r s stored = takes s r 1
+two_operand_terms SMinusRWithCarry r s stored = takes s r stored
+two_operand_terms RMinusS r s stored = takes r s 1
+two_operand_terms RMinusSWithCarry r s stored = takes r s stored
+two_operand_terms RPlusS r s stored = adds r s 0
+two_operand_terms RPlusSWithCarry r s stored = adds r s stored
+two_operand_terms And r s stored = neither
+two_operand_terms Nand r s stored = neither
+two_operand_terms Xor r s stored = neither
+two_operand_terms Nor r s stored = neither
+two_operand_terms Or r s stored = neither
+two_operand_terms Xnor r s stored = neither
 
-abbrev pub oneOperandTerms : OneOperandKind → ℕ → Terms
-oneOperandTerms Move a = neither
-oneOperandTerms Complement a = neither
-oneOperandTerms Increment a = adds a 0 1
-oneOperandTerms Negate a = takes 0 a 1
+abbrev pub one_operand_terms : OneOperandKind → ℕ → Terms
+one_operand_terms Move a = neither
+one_operand_terms Complement a = neither
+one_operand_terms Increment a = adds a 0 1
+one_operand_terms Negate a = takes 0 a 1
 
-abbrev pub bitTerms : BitKind → ℕ → ℕ → Terms
-bitTerms SetBit a power = neither
-bitTerms ResetBit a power = neither
-bitTerms TestBit a power = neither
-bitTerms LoadBit a power = neither
-bitTerms LoadBitComplement a power = neither
-bitTerms AddBit a power = adds a power 0
-bitTerms SubtractBit a power = takes a power 1
+abbrev pub bit_terms : BitKind → ℕ → ℕ → Terms
+bit_terms SetBit a power = neither
+bit_terms ResetBit a power = neither
+bit_terms TestBit a power = neither
+bit_terms LoadBit a power = neither
+bit_terms LoadBitComplement a power = neither
+bit_terms AddBit a power = adds a power 0
+bit_terms SubtractBit a power = takes a power 1
 
-abbrev pub termsOf : ℕ → Operation → ℕ → Terms
-termsOf w (TwoOperand kind r s) status = twoOperandTerms kind (low w r) (low w s) (storedC status)
-termsOf w (OneOperand kind source) status = oneOperandTerms kind (low w source)
-termsOf w (Bit kind n source) status = bitTerms kind (low w source) (power w n)
-termsOf w (Shift kind source) status = neither
-termsOf w (Rotate n source) status = neither
-termsOf w (Merge n u r mask) status = neither
-termsOf w (Compare n u r mask) status = neither
-termsOf w (Prioritize source mask) status = neither
-termsOf w (CrcForward register acc) status = neither
-termsOf w (CrcReverse register acc) status = neither
+abbrev pub terms_of : ℕ → Operation → ℕ → Terms
+terms_of w (TwoOperand kind r s) status = two_operand_terms kind (low w r) (low w s) (stored_c status)
+terms_of w (OneOperand kind source) status = one_operand_terms kind (low w source)
+terms_of w (Bit kind n source) status = bit_terms kind (low w source) (power w n)
+terms_of w (Shift kind source) status = neither
+terms_of w (Rotate n source) status = neither
+terms_of w (Merge n u r mask) status = neither
+terms_of w (Compare n u r mask) status = neither
+terms_of w (Prioritize source mask) status = neither
+terms_of w (CrcForward register acc) status = neither
+terms_of w (CrcReverse register acc) status = neither
 
 abbrev pub Meets : ℕ → Terms → Outcome → Type 0
 Meets w (adds a b k) o = Added w a b k o

@@ -21,5 +21,5 @@ unfoldable pub complement : ℕ → ℕ → ℕ
 complement w x = 2 ^ w - 1 - low w x
 
 -- a destination that held old takes the result: it changes below the width, and above stays (document 01, what the instructions do)
-unfoldable pub writeBack : ℕ → ℕ → ℕ → ℕ
-writeBack w old result = old / 2 ^ w * 2 ^ w + low w result
+unfoldable pub write_back : ℕ → ℕ → ℕ → ℕ
+write_back w old result = old / 2 ^ w * 2 ^ w + low w result

@@ -1,7 +1,7 @@
 // The status byte after an operation.
 ghost use Rattle.std.specs.Prelude.{◌≡◌};
 ghost use Rattle.alu.specs.Width.{width_of};
-ghost use Rattle.alu.specs.Flags.{zero_flag, flagged as specs·flagged, with_sign, plain as specs·plain, linked as specs·linked};
+ghost use Rattle.alu.specs.Flags.{zero_flag, flagged, with_sign, plain, linked};
 
 use crate::width::{low, top_bit};
 use crate::{Mode, Outcome};
@@ -15,7 +15,7 @@ pub(crate) fn zero_flag(mode: Mode, x: u32) -> u8
 
 // The status with new Z, C, N and OVR.
 pub(crate) fn flagged(z: u8, c: u8, n: u8, ovr: u8, status: u8) -> u8
-    ensures { result ≡ specs·flagged z c n ovr status }
+    ensures { result ≡ flagged z c n ovr status }
 {
     status / 16 * 16 + (z % 2 + c % 2 * 2 + n % 2 * 4 + ovr % 2 * 8)
 }
@@ -32,14 +32,14 @@ pub(crate) fn with_sign(mode: Mode, n: u8, res: u16, status: u8) -> Outcome
 
 // A result with N its top bit; C and OVR become 0.
 pub(crate) fn plain(mode: Mode, res: u16, status: u8) -> Outcome
-    ensures { result ≡ specs·plain (width_of mode) res status }
+    ensures { result ≡ plain (width_of mode) res status }
 {
     with_sign(mode, top_bit(mode, res as u32), res, status)
 }
 
 // An outcome whose LINK is the bit shifted out.
 pub(crate) fn linked(out: u8, o: Outcome) -> Outcome
-    ensures { result ≡ specs·linked out o }
+    ensures { result ≡ linked out o }
 {
     Outcome {
         result: o.result,

@@ -1,5 +1,7 @@
 // One operation at a width: the arithmetic of the Am29C116, the same for bytes and words. `perform` is every operation of document 01's
 // "What the instructions do" that computes from operands, and `write_back` is what a destination holds afterwards.
+#![tactic(auto)]
+
 mod flags;
 mod logic;
 mod priority;
@@ -9,8 +11,8 @@ mod sums;
 mod width;
 
 ghost use Rattle.std.specs.Prelude.{◌≡◌};
-ghost use Rattle.alu.specs.Width.{width_of, writeBack};
-ghost use Rattle.alu.specs.Operations.{outcomeOf};
+ghost use Rattle.alu.specs.Width.{width_of, write_back};
+ghost use Rattle.alu.specs.Operations.{outcome_of};
 
 use logic::{bit_operation, one_operand, two_operand};
 use priority::prioritize;
@@ -19,14 +21,14 @@ use shifts::{crc_forward, crc_reverse, shift};
 use width::{low, size};
 
 // Bit 15 of a word: how wide the instruction works.
-#[derive(Drop)]
+#[derive(Clone, Copy)]
 pub enum Mode {
     Byte,
     Word,
 }
 
 // Operations 0 to 11.
-#[derive(Drop)]
+#[derive(Clone, Copy)]
 pub enum TwoOperandKind {
     SMinusR,
     SMinusRWithCarry,
@@ -43,7 +45,7 @@ pub enum TwoOperandKind {
 }
 
 // MOVE, COMP, INC and NEG.
-#[derive(Drop)]
+#[derive(Clone, Copy)]
 pub enum OneOperandKind {
     Move,
     Complement,
@@ -52,7 +54,7 @@ pub enum OneOperandKind {
 }
 
 // What is done with bit n, or with 2^n.
-#[derive(Drop)]
+#[derive(Clone, Copy)]
 pub enum BitKind {
     SetBit,
     ResetBit,
@@ -64,7 +66,7 @@ pub enum BitKind {
 }
 
 // Which way a shift goes, and what comes in.
-#[derive(Drop)]
+#[derive(Clone, Copy)]
 pub enum ShiftKind {
     UpWithZero,
     UpWithOne,
@@ -77,7 +79,7 @@ pub enum ShiftKind {
 }
 
 // One operation with its operands. Only their parts at the width count, and n counts modulo the width.
-#[derive(Drop)]
+#[derive(Clone, Copy)]
 pub enum Operation {
     TwoOperand {
         kind: TwoOperandKind,
@@ -128,14 +130,14 @@ pub enum Operation {
 }
 
 // What an operation puts on Y, below the width, and the whole status after it.
-#[derive(Drop)]
+#[derive(Clone, Copy)]
 pub struct Outcome {
     pub result: u16,
     pub status: u8,
 }
 
 pub fn perform(mode: Mode, operation: Operation, status: u8) -> Outcome
-    ensures { result ≡ outcomeOf (width_of mode) operation status }
+    ensures { result ≡ outcome_of (width_of mode) operation status }
 {
     match operation {
         Operation::TwoOperand { kind, r, s } => two_operand(mode, kind, r, s, status),
@@ -153,7 +155,7 @@ pub fn perform(mode: Mode, operation: Operation, status: u8) -> Outcome
 
 // The word that a destination holds after a result is written to it: its part above the width stays.
 pub fn write_back(mode: Mode, old: u16, res: u16) -> u16
-    ensures { result ≡ writeBack (width_of mode) old res }
+    ensures { result ≡ write_back (width_of mode) old res }
 {
     let size = size(mode);
     let kept = old as u32 / size * size;

@@ -1,7 +1,7 @@
 // The operations on two operands, on one, and on a bit.
 ghost use Rattle.std.specs.Prelude.{◌≡◌};
 ghost use Rattle.alu.specs.Width.{width_of};
-ghost use Rattle.alu.specs.Operations.{xnorSign, power as specs·power, outcomeOf};
+ghost use Rattle.alu.specs.Operations.{xnor_sign, power, outcome_of};
 ghost use Rattle.alu.specs.declared.Operation.TheVariants.{TwoOperand, OneOperand, Bit};
 
 use crate::flags::{plain, with_sign};
@@ -11,13 +11,13 @@ use crate::{BitKind, Mode, OneOperandKind, Outcome, TwoOperandKind};
 
 // N after XNOR.
 fn xnor_sign(mode: Mode, res: u16) -> u8
-    ensures { result ≡ xnorSign (width_of mode) res }
+    ensures { result ≡ xnor_sign (width_of mode) res }
 {
     0
 }
 
 pub(crate) fn two_operand(mode: Mode, kind: TwoOperandKind, r: u16, s: u16, status: u8) -> Outcome
-    ensures { result ≡ outcomeOf (width_of mode) (TwoOperand kind r s) status }
+    ensures { result ≡ outcome_of (width_of mode) (TwoOperand kind r s) status }
 {
     let r = low(mode, r as u32);
     let s = low(mode, s as u32);
@@ -42,7 +42,7 @@ pub(crate) fn two_operand(mode: Mode, kind: TwoOperandKind, r: u16, s: u16, stat
 }
 
 pub(crate) fn one_operand(mode: Mode, kind: OneOperandKind, source: u16, status: u8) -> Outcome
-    ensures { result ≡ outcomeOf (width_of mode) (OneOperand kind source) status }
+    ensures { result ≡ outcome_of (width_of mode) (OneOperand kind source) status }
 {
     let source = low(mode, source as u32);
     match kind {
@@ -55,13 +55,13 @@ pub(crate) fn one_operand(mode: Mode, kind: OneOperandKind, source: u16, status:
 
 // 2^n, n modulo the width.
 fn power(mode: Mode, n: u8) -> u16
-    ensures { result ≡ specs·power (width_of mode) n }
+    ensures { result ≡ power (width_of mode) n }
 {
     power_of_two(n % width(mode)) as u16
 }
 
 pub(crate) fn bit_operation(mode: Mode, kind: BitKind, n: u8, source: u16, status: u8) -> Outcome
-    ensures { result ≡ outcomeOf (width_of mode) (Bit kind n source) status }
+    ensures { result ≡ outcome_of (width_of mode) (Bit kind n source) status }
 {
     let source = low(mode, source as u32);
     let bit = power(mode, n);

@@ -1,7 +1,7 @@
 // The place of the highest bit that a mask leaves.
 ghost use Rattle.std.specs.Prelude.{◌≡◌};
-ghost use Rattle.alu.specs.Width.{width_of, low as specs·low};
-ghost use Rattle.alu.specs.Operations.{priority as specs·priority, outcomeOf};
+ghost use Rattle.alu.specs.Width.{width_of, low};
+ghost use Rattle.alu.specs.Operations.{priority, outcome_of};
 ghost use Rattle.alu.specs.declared.Operation.TheVariants.{Prioritize};
 
 use crate::flags::plain;
@@ -10,7 +10,7 @@ use crate::{Mode, Outcome};
 
 // 0 for 0, else the place of the highest bit, 1 for the top of the width.
 fn priority(mode: Mode, x: u16) -> u16
-    ensures { result ≡ specs·priority (width_of mode) (specs·low (width_of mode) x) }
+    ensures { result ≡ priority (width_of mode) (low (width_of mode) x) }
 {
     let x = low(mode, x as u32);
     if x == 0 {
@@ -21,7 +21,7 @@ fn priority(mode: Mode, x: u16) -> u16
 }
 
 pub(crate) fn prioritize(mode: Mode, source: u16, mask: u16, status: u8) -> Outcome
-    ensures { result ≡ outcomeOf (width_of mode) (Prioritize source mask) status }
+    ensures { result ≡ outcome_of (width_of mode) (Prioritize source mask) status }
 {
     let source = low(mode, source as u32);
     let mask = low(mode, mask as u32);

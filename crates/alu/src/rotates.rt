@@ -1,7 +1,7 @@
 // Rotates, and what is done with a rotated word under a mask.
 ghost use Rattle.std.specs.Prelude.{◌≡◌};
-ghost use Rattle.alu.specs.Width.{width_of, low as specs·low};
-ghost use Rattle.alu.specs.Operations.{rotated as specs·rotated, outcomeOf};
+ghost use Rattle.alu.specs.Width.{width_of, low};
+ghost use Rattle.alu.specs.Operations.{rotated, outcome_of};
 ghost use Rattle.alu.specs.declared.Operation.TheVariants.{Rotate, Merge, Compare};
 
 use crate::flags::plain;
@@ -10,7 +10,7 @@ use crate::{Mode, Outcome};
 
 // n places up, modulo the width: what leaves at the top comes in below.
 fn rotated(mode: Mode, n: u8, source: u16) -> u16
-    ensures { result ≡ specs·rotated (width_of mode) n (specs·low (width_of mode) source) }
+    ensures { result ≡ rotated (width_of mode) n (low (width_of mode) source) }
 {
     let source = low(mode, source as u32) as u32;
     let width = width(mode);
@@ -20,14 +20,14 @@ fn rotated(mode: Mode, n: u8, source: u16) -> u16
 }
 
 pub(crate) fn rotate(mode: Mode, n: u8, source: u16, status: u8) -> Outcome
-    ensures { result ≡ outcomeOf (width_of mode) (Rotate n source) status }
+    ensures { result ≡ outcome_of (width_of mode) (Rotate n source) status }
 {
     plain(mode, rotated(mode, n, source), status)
 }
 
 // Rotated u where the mask is 1, else r.
 pub(crate) fn merge(mode: Mode, n: u8, u: u16, r: u16, mask: u16, status: u8) -> Outcome
-    ensures { result ≡ outcomeOf (width_of mode) (Merge n u r mask) status }
+    ensures { result ≡ outcome_of (width_of mode) (Merge n u r mask) status }
 {
     let r = low(mode, r as u32);
     let mask = low(mode, mask as u32);
@@ -37,7 +37,7 @@ pub(crate) fn merge(mode: Mode, n: u8, u: u16, r: u16, mask: u16, status: u8) ->
 
 // Where r and rotated u differ and the mask is 0.
 pub(crate) fn compare(mode: Mode, n: u8, u: u16, r: u16, mask: u16, status: u8) -> Outcome
-    ensures { result ≡ outcomeOf (width_of mode) (Compare n u r mask) status }
+    ensures { result ≡ outcome_of (width_of mode) (Compare n u r mask) status }
 {
     let r = low(mode, r as u32);
     let mask = low(mode, mask as u32);

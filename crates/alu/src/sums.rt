@@ -1,7 +1,7 @@
 // Sums and differences at a width, with their carries.
 ghost use Rattle.std.specs.Prelude.{◌≡◌, ◌+◌, ◌/◌, ◌%◌, ◌≤◌};
 ghost use Rattle.alu.specs.Width.{width_of};
-ghost use Rattle.alu.specs.Operations.{plus as specs·plus, minus as specs·minus};
+ghost use Rattle.alu.specs.Operations.{plus, minus};
 
 use crate::flags::{flagged, zero_flag};
 use crate::width::{complement, half, low, size, top_bit};
@@ -17,7 +17,7 @@ fn carry_into(weight: u32, a: u16, b: u16, k: u8) -> u8
 
 // a + b + k.
 pub(crate) fn plus(mode: Mode, a: u16, b: u16, k: u8, status: u8) -> Outcome
-    ensures { result ≡ specs·plus (width_of mode) a b k status }
+    ensures { result ≡ plus (width_of mode) a b k status }
 {
     let sum = a as u32 + b as u32 + k as u32;
     let c = carry_into(size(mode), a, b, k);
@@ -36,7 +36,7 @@ pub(crate) fn plus(mode: Mode, a: u16, b: u16, k: u8, status: u8) -> Outcome
 
 // a and the complement of b and k.
 pub(crate) fn minus(mode: Mode, a: u16, b: u16, k: u8, status: u8) -> Outcome
-    ensures { result ≡ specs·minus (width_of mode) a b k status }
+    ensures { result ≡ minus (width_of mode) a b k status }
 {
     plus(mode, a, complement(mode, b), k, status)
 }

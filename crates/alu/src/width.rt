@@ -1,6 +1,6 @@
 // Words and their parts at a width.
 ghost use Rattle.std.specs.Prelude.{◌≡◌, ◌-◌, ◌≤◌};
-ghost use Rattle.alu.specs.Width.{width_of, bit, low as specs·low, complement as specs·complement};
+ghost use Rattle.alu.specs.Width.{width_of, bit, low, complement};
 ghost use Rattle.alu.specs.Bounds.{IsWidth, IsSize, IsHalf, IsPower};
 
 use crate::Mode;
@@ -44,14 +44,14 @@ pub(crate) fn power_of_two(n: u8) -> u32
 
 // The part of x below the width.
 pub(crate) fn low(mode: Mode, x: u32) -> u16
-    ensures { result ≡ specs·low (width_of mode) x }
+    ensures { result ≡ low (width_of mode) x }
 {
     (x % size(mode)) as u16
 }
 
 // Every bit below the width turned over.
 pub(crate) fn complement(mode: Mode, x: u16) -> u16
-    ensures { result ≡ specs·complement (width_of mode) x }
+    ensures { result ≡ complement (width_of mode) x }
 {
     (size(mode) - 1 - low(mode, x as u32) as u32) as u16
 }

@@ -1,12 +1,14 @@
 // Prints the outcome of every operation at both widths over corner operands: a line for a mode, an operation, a status and all operands
 // but the last, with ten outcomes, one for each value of the last.
+#![tactic(auto)]
+
 ghost use Rattle.std.specs.Prelude.{◌<◌};
 
 use alu::{BitKind, Mode, OneOperandKind, Operation, Outcome, ShiftKind, TwoOperandKind};
 use libc::STDOUT_FILENO;
 
 // The kinds of line, in the order in which they are printed.
-#[derive(Drop)]
+#[derive(Clone, Copy)]
 enum Block {
     TwoOperand,
     OneOperand,
@@ -20,7 +22,7 @@ enum Block {
 }
 
 // What is tried: an operation on an old status, or a result written over an old word.
-#[derive(Drop)]
+#[derive(Clone, Copy)]
 enum Case {
     Perform(Operation, u8),
     Write(u16, u16),

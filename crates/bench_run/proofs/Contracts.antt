@@ -1,11 +1,11 @@
 -- The contract of the C function is its statement (choice, specs/Contracts).
 use mathlib.Core.Path.{refl}
 use lib.ListN.{length}
-use Rattle.choice.specs.Contracts.{States, first, second}
-use Rattle.run.specs.Runs.{run_of, zeroMachine, fullBudget}
+use Rattle.choice.specs.Promises.{States, first, second}
+use Rattle.run.specs.Runs.{run_of, zero_machine, full_budget}
 use Rattle.bench_run.specs.Counting.{Counts}
 use Rattle.bench_run.proofs.firanbekwo_run.Reads as run-contract
 
-pub run-states : States run-contract.Asked run-contract.Learnt
-    (λ κs a r b. Counts (run_of zeroMachine (first a).now fullBudget (length (second a).now)) r (second a).now (second b).now)
-run-states = λ κs a r b. (refl, refl)
+pub run_states : States run-contract.Asked run-contract.Learnt
+    (λ κs a r b. Counts (run_of zero_machine (first a).now full_budget (length (second a).now)) r (second a).now (second b).now)
+run_states = λ κs a r b. (refl, refl)

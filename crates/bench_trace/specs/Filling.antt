@@ -2,15 +2,15 @@
 use Rattle.std.specs.Prelude.{◌≡◌, List, ℕ, length}
 use Rattle.std.proofs.Math.Option.{none, some}
 use Rattle.choice.specs.Tells.{Placed}
-use Rattle.trace.specs.Layout.{wordsPerRecord}
+use Rattle.trace.specs.Layout.{words_per_record}
 use Rattle.trace.specs.Answers.{leaves}
-use Rattle.trace.specs.Reading.{read_of, readWords}
+use Rattle.trace.specs.Reading.{read_of, read_words}
 
 -- the words that an answer says are filled: none where it refuses
-abbrev pub filledOf : Placed ℕ → ℕ
-filledOf answer = elim answer.told.value [ some n ↦ n | none ↦ 0 ]
+abbrev pub filled_of : Placed ℕ → ℕ
+filled_of answer = elim answer.told.value [ some n ↦ n | none ↦ 0 ]
 
 -- a trace, the number of words, and the lent cycle words before and after
 pub record FillsFrom (trace : List ℕ) (r : ℕ) (before after : List ℕ) : Type 0 where
-  pub filled : r ≡ filledOf (read_of wordsPerRecord trace (length before))
-  pub written : after ≡ leaves (read_of wordsPerRecord trace (length before)) (readWords wordsPerRecord trace) before
+  pub filled : r ≡ filled_of (read_of words_per_record trace (length before))
+  pub written : after ≡ leaves (read_of words_per_record trace (length before)) (read_words words_per_record trace) before

@@ -1,7 +1,9 @@
 // The block check, the reader of traces, and the run beside them, as C functions for bench/: what a run costs where trace is linked too.
+#![tactic(auto)]
+
 ghost use Rattle.std.specs.Prelude.{◌≡◌, length};
-ghost use Rattle.run.specs.Runs.{run_of, zeroMachine, fullBudget};
-ghost use Rattle.trace.specs.Check.{checkOf};
+ghost use Rattle.run.specs.Runs.{run_of, zero_machine, full_budget};
+ghost use Rattle.trace.specs.Check.{check_of};
 ghost use Rattle.bench_run.specs.Counting.{Counts};
 ghost use Rattle.bench_trace.specs.Filling.{FillsFrom};
 
@@ -10,7 +12,7 @@ use trace::Filled;
 // The check of some bytes.
 #[unsafe(no_mangle)]
 pub extern "C" fn firanbekwo_check(bytes: &[u8]) -> u16
-    ensures { result ≡ checkOf bytes.now }
+    ensures { result ≡ check_of bytes.now }
 {
     trace::check(bytes)
 }
@@ -29,7 +31,7 @@ pub extern "C" fn firanbekwo_read(trace: &[u8], cycles: &mut [u16]) -> usize
 // The run, as bench_run has it.
 #[unsafe(no_mangle)]
 pub extern "C" fn firanbekwo_run_beside_check(words: &[u16], reports: &mut [u16]) -> usize
-    ensures { Counts (run_of zeroMachine words.now fullBudget (length reports.old)) result reports.old reports.new }
+    ensures { Counts (run_of zero_machine words.now full_budget (length reports.old)) result reports.old reports.new }
 {
     bench_run::firanbekwo_run(words, reports)
 }

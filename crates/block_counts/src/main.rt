@@ -1,6 +1,8 @@
 // Reads cases for the check, the reader and the writer of trace blocks on standard input and prints what each call answers and fills.
 // A case is a header line "K LLLLLL ZZZZZZ RRRRRR" and a payload of L bytes. K is C, R or W for check, read or write; the input is the
 // payload and Z zeros after it, for W as words, low byte first; R is the room of the lent output, in words for R and in bytes for W.
+#![tactic(auto)]
+
 mod printing; // printing.rt: what a call answered, as lines
 
 ghost use Rattle.std.specs.Prelude.{◌<◌, ◌≤◌, length};

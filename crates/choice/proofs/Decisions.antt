@@ -7,7 +7,7 @@ use native.Mathlib.Omega.{arith}
 use lib.Dec.{T, eqb, eqb→eq}
 use borrow.Author.Tests.{eqb-true, eqb-false}
 use Rattle.choice.specs.Along.{Along, Unless, same}
-use Rattle.choice.proofs.Spans.{span, span-at}
+use Rattle.choice.proofs.Spans.{span, span_at}
 
 -- what Along says at each number, at x
 module _ {A : Type 0} (test : A → A → Bool) (sound : (r y : A) → test r y ≡ true → r ≡ y) where
@@ -23,17 +23,17 @@ module _ {A : Type 0} (test : A → A → Bool) (sound : (r y : A) → test r y 
   along-by zero f x r a h = absurd (not-suc-le-zero h)
   along-by (suc n) f x r (a, u) h = last n f x r u h (along-by n f x r a)
 
-pub same-eq : (b d : Bool) → same b d ≡ true → b ≡ d
-same-eq true true e = refl
-same-eq true false e = sym e
-same-eq false true e = e
-same-eq false false e = refl
+pub same_eq : (b d : Bool) → same b d ≡ true → b ≡ d
+same_eq true true e = refl
+same_eq true false e = sym e
+same_eq false true e = e
+same_eq false false e = refl
 
 pub along : (n : ℕ) (f : ℕ → ℕ) (x r : ℕ) → Along eqb n f x r → x < n → r ≡ f x
 along = along-by eqb eqb-true
 
-pub along-test : (n : ℕ) (f : ℕ → Bool) (x : ℕ) (r : Bool) → Along same n f x r → x < n → r ≡ f x
-along-test = along-by same same-eq
+pub along_test : (n : ℕ) (f : ℕ → Bool) (x : ℕ) (r : Bool) → Along same n f x r → x < n → r ≡ f x
+along_test = along-by same same_eq
 
 -- z, y and x are in the stretches of zn numbers from zlo on, of yn from ylo on, and of xn from xlo on
 abbrev pub Inside : ℕ → ℕ → ℕ → ℕ → ℕ → ℕ → ℕ → ℕ → ℕ → Type 0
@@ -47,8 +47,8 @@ pub box : (f g : ℕ → ℕ → ℕ → ℕ) (zlo zn ylo yn xlo xn : ℕ) → T
     → (z y x : ℕ) → Inside zlo zn ylo yn xlo xn z y x → f z y x ≡ g z y x
 box f g zlo zn ylo yn xlo xn t z y x h =
     eqb→eq (f z y x) (g z y x)
-    (span-at (λ x. eqb (f z y x) (g z y x)) xn xlo x
-    (span-at (λ y. span xlo xn (λ x. eqb (f z y x) (g z y x))) yn ylo y
-    (span-at (λ z. span ylo yn (λ y. span xlo xn (λ x. eqb (f z y x) (g z y x)))) zn zlo z t h.0 h.1)
+    (span_at (λ x. eqb (f z y x) (g z y x)) xn xlo x
+    (span_at (λ y. span xlo xn (λ x. eqb (f z y x) (g z y x))) yn ylo y
+    (span_at (λ z. span ylo yn (λ y. span xlo xn (λ x. eqb (f z y x) (g z y x)))) zn zlo z t h.0 h.1)
     h.2 h.3)
     h.4 h.5)

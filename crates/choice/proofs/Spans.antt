@@ -19,9 +19,9 @@ both true d t = (tt, t)
 both false d t = absurd t
 
 -- a test that is asked only where another holds
-pub where-held : (b d : Bool) → T (elim b [ true ↦ d | false ↦ true ]) → b ≡ true → T d
-where-held true d t h = t
-where-held false d t h = absurd (never h)
+pub where_held : (b d : Bool) → T (elim b [ true ↦ d | false ↦ true ]) → b ≡ true → T d
+where_held true d t h = t
+where_held false d t h = absurd (never h)
 
 -- f at each of the n numbers from lo on
 abbrev pub span : ℕ → ℕ → (ℕ → Bool) → Bool
@@ -36,16 +36,16 @@ split lo x P h e l = by-test (eqb lo x) refl
     by-test true q = e (eqb-true lo x q)
     by-test false q = l (omega (arith, eqb-false lo x q))
 
-pub span-at : (f : ℕ → Bool) (n lo x : ℕ) → T (span lo n f) → lo ≤ x → x < lo + n → T (f x)
-span-at f zero lo x t h k = absurd (omega arith)
-span-at f (suc n) lo x t h k =
+pub span_at : (f : ℕ → Bool) (n lo x : ℕ) → T (span lo n f) → lo ≤ x → x < lo + n → T (f x)
+span_at f zero lo x t h k = absurd (omega arith)
+span_at f (suc n) lo x t h k =
     split lo x (T (f x)) h
     (λ e. subst (λ (y : ℕ). T (f y)) e (both (f lo) (span (suc lo) n f) t).0)
-    (λ l. span-at f n (suc lo) x (both (f lo) (span (suc lo) n f) t).1 l (omega arith))
+    (λ l. span_at f n (suc lo) x (both (f lo) (span (suc lo) n f) t).1 l (omega arith))
 
 pub below : (f : ℕ → Bool) (n x : ℕ) → T (span 0 n f) → x < n → T (f x)
-below f n x t h = span-at f n 0 x t (omega arith) (omega arith)
+below f n x t h = span_at f n 0 x t (omega arith) (omega arith)
 
 -- two functions that are the same at each number below n
-pub equal-below : (f g : ℕ → ℕ) (n x : ℕ) → T (span 0 n (λ y. eqb (f y) (g y))) → x < n → f x ≡ g x
-equal-below f g n x t h = eqb→eq (f x) (g x) (below (λ y. eqb (f y) (g y)) n x t h)
+pub equal_below : (f g : ℕ → ℕ) (n x : ℕ) → T (span 0 n (λ y. eqb (f y) (g y))) → x < n → f x ≡ g x
+equal_below f g n x t h = eqb→eq (f x) (g x) (below (λ y. eqb (f y) (g y)) n x t h)

@@ -8,7 +8,7 @@ use lib.Dec.{eqb}
 use borrow.Author.Tests.{eqb-true, eqb-false, eq-eqb, ne_eqb}
 use Rattle.choice.specs.Pick.{pick}
 use Rattle.choice.specs.Checks.{Check, check, refusal}
-use Rattle.choice.specs.Tells.{Tells, accepted, refused, tells, Placed, acceptedWhole, refusedAt}
+use Rattle.choice.specs.Tells.{Tells, accepted, refused, tells, Placed, accepted_whole, refused_at}
 use Rattle.choice.proofs.Spans.{never}
 
 module _ {A : Type 0} where
@@ -22,13 +22,13 @@ module _ {A : Type 0} where
   accepted-refused x k e = some-ne-none x (ap (λ (t : Tells A). t.value) e)
 
   -- and likewise of an answer with a place
-  pub whole-one : (x y : A) → acceptedWhole x ≡ acceptedWhole y → x ≡ y
+  pub whole-one : (x y : A) → accepted_whole x ≡ accepted_whole y → x ≡ y
   whole-one x y e = accepted-one x y (ap (λ (p : Placed A). p.told) e)
 
-  pub refused-at-one : (j k a b : ℕ) → refusedAt {A = A} j a ≡ refusedAt k b → (j ≡ k) × (a ≡ b)
+  pub refused-at-one : (j k a b : ℕ) → refused_at {A = A} j a ≡ refused_at k b → (j ≡ k) × (a ≡ b)
   refused-at-one j k a b e = (ap (λ (p : Placed A). p.told.number) e, ap (λ (p : Placed A). p.index) e)
 
-  pub whole-refused : (x : A) (k i : ℕ) → acceptedWhole x ≡ refusedAt k i → ⊥
+  pub whole-refused : (x : A) (k i : ℕ) → accepted_whole x ≡ refused_at k i → ⊥
   whole-refused x k i e = accepted-refused x k (ap (λ (p : Placed A). p.told) e)
 
   -- the answers that a list of checks leads to: at its first check, past it, and at its end

@@ -3,4 +3,4 @@ pub mod Checks
 pub mod Tells
 pub mod Along
 pub mod Text
-pub mod Contracts
+pub mod Promises

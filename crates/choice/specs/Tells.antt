@@ -24,8 +24,8 @@ pub record Placed (A : Type 0) : Type 0 where
   pub told : Tells A
   pub index : ℕ
 
-abbrev pub acceptedWhole : {A : Type 0} → A → Placed A
-acceptedWhole x = record { told = accepted x; index = 0 }
+abbrev pub accepted_whole : {A : Type 0} → A → Placed A
+accepted_whole x = record { told = accepted x; index = 0 }
 
-abbrev pub refusedAt : {A : Type 0} → ℕ → ℕ → Placed A
-refusedAt k i = record { told = refused k; index = i }
+abbrev pub refused_at : {A : Type 0} → ℕ → ℕ → Placed A
+refused_at k i = record { told = refused k; index = i }

@@ -14,12 +14,12 @@ blank = 32
 abbrev pub dash : ℕ
 dash = 45
 
-abbrev pub zeroDigit : ℕ
-zeroDigit = 48
+abbrev pub zero_digit : ℕ
+zero_digit = 48
 
 -- a digit below 16: "0" to "9", then capital letters, of which "A" is 65
 abbrev pub digit : ℕ → ℕ
-digit d = pick (ltb d 10) (zeroDigit + d) (55 + d)
+digit d = pick (ltb d 10) (zero_digit + d) (55 + d)
 
 -- the last n digits of x in a base, the highest first
 abbrev pub numeral : ℕ → ℕ → ℕ → List ℕ
@@ -33,7 +33,7 @@ hex n x = numeral 16 n x
 abbrev pub trimmed : List ℕ → List ℕ
 trimmed [] = []
 trimmed (d ∷ []) = d ∷ []
-trimmed (d ∷ e ∷ digits) = pick (eqb d zeroDigit) (trimmed (e ∷ digits)) (d ∷ e ∷ digits)
+trimmed (d ∷ e ∷ digits) = pick (eqb d zero_digit) (trimmed (e ∷ digits)) (d ∷ e ∷ digits)
 
 -- 20 digits hold every 64-bit number
 abbrev pub longest : ℕ
@@ -43,8 +43,8 @@ unfoldable pub decimal : ℕ → List ℕ
 decimal x = trimmed (numeral 10 longest x)
 
 -- a digit where x is below a limit, which is at most 16, and "-" for none
-abbrev pub digitOrNone : ℕ → ℕ → ℕ
-digitOrNone limit x = pick (ltb x limit) (digit x) dash
+abbrev pub digit_or_none : ℕ → ℕ → ℕ
+digit_or_none limit x = pick (ltb x limit) (digit x) dash
 
 -- quoted text
 abbrev pub ascii : String → List ℕ

@@ -1,5 +1,7 @@
 // Reads single cycles on standard input, one per line, and prints what each does. A line has seven words of four capital hex digits:
 // the waiting word (0000 for none), ACC, D and the status at the start, then the lines, the Y input and the pins.
+#![tactic(auto)]
+
 ghost use Rattle.std.specs.Prelude.{◌+◌, ◌<◌, ◌≤◌, length};
 
 use libc::{STDIN_FILENO, STDOUT_FILENO};

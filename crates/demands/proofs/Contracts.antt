@@ -1,5 +1,5 @@
 -- The contracts of the public calls in src/ are the statements of specs/Calls, of which `every_call` (Determined) says that no two outcomes satisfy
--- them: `every-contract`. Each asks nothing of a caller, and says just its statement, so no contract can be weakened unnoticed.
+-- them: `every_contract`. Each asks nothing of a caller, and says just its statement, so no contract can be weakened unnoticed.
 use mathlib.Core.Path.{refl}
 use Rattle.text.proofs.start.Reads as start-contract
 use Rattle.text.proofs.take.Reads as take-contract
@@ -45,31 +45,31 @@ use Rattle.listing.proofs.data_of.Reads as data-of-contract
 use Rattle.listpages.proofs.list_trace.Reads as list-trace-contract
 use Rattle.listpages.proofs.read_lines.Reads as read-lines-contract
 use Rattle.demands.specs.Calls.{Starts, TakesText, Performs, WritesBack, Decodes, LooksUp, Encodes, TakesImmediate, NumbersFamily, GivesRow, Plans, NamesImmediate, Cycles, StepsMachine, TakesApart, PutsTogether, MayStart, Runs, RunsFromZero, Checks, ReadsTrace, WritesTrace, Keeps, CycleLines, StateLines, RegisterLines, WordRefusedLines, LastLines, PageLines, WordsLines, FaultLines, RemarkLines, MakesLine, ShowsRun, ShowsWords, TakesPieces, EndsTexts, PrintsWord, ReadsWord, PrintsData, ReadsData, ShowsList, AnswersLines}
-use Rattle.choice.specs.Contracts.{States, first, second, third, fourth, fifth, sixth}
+use Rattle.choice.specs.Promises.{States, first, second, third, fourth, fifth, sixth}
 
 pub record EveryContract : Type 1 where
   pub start : States start-contract.Asked start-contract.Learnt (λ κs a r b. Starts tt r)
   pub take : States take-contract.Asked take-contract.Learnt
       (λ κs a r b. TakesText (first a, (second a).now, (third a).now) (record { answer = r; after = (third b).now }))
   pub perform : States perform-contract.Asked perform-contract.Learnt (λ κs a r b. Performs (first a, second a, third a) r)
-  pub write-back : States write-back-contract.Asked write-back-contract.Learnt (λ κs a r b. WritesBack (first a, second a, third a) r)
+  pub write_back_lem : States write-back-contract.Asked write-back-contract.Learnt (λ κs a r b. WritesBack (first a, second a, third a) r)
   pub decode : States decode-contract.Asked decode-contract.Learnt (λ κs a r b. Decodes (first a) r)
   pub look_up : States look-up-contract.Asked look-up-contract.Learnt (λ κs a r b. LooksUp (first a) r)
   pub encode : States encode-contract.Asked encode-contract.Learnt (λ κs a r b. Encodes (first a) r)
-  pub takes-immediate : States takes-immediate-contract.Asked takes-immediate-contract.Learnt (λ κs a r b. TakesImmediate (first a) r)
+  pub takes_immediate_lem : States takes-immediate-contract.Asked takes-immediate-contract.Learnt (λ κs a r b. TakesImmediate (first a) r)
   pub number_of : States number-of-contract.Asked number-of-contract.Learnt (λ κs a r b. NumbersFamily (first a) r)
-  pub numbered-row : States numbered-row-contract.Asked numbered-row-contract.Learnt (λ κs a r b. GivesRow (first a) r)
-  pub plan-for : States plan-for-contract.Asked plan-for-contract.Learnt (λ κs a r b. Plans (first a) r)
-  pub names-immediate : States names-immediate-contract.Asked names-immediate-contract.Learnt (λ κs a r b. NamesImmediate (first a) r)
+  pub numbered_row : States numbered-row-contract.Asked numbered-row-contract.Learnt (λ κs a r b. GivesRow (first a) r)
+  pub plan_for : States plan-for-contract.Asked plan-for-contract.Learnt (λ κs a r b. Plans (first a) r)
+  pub names_immediate : States names-immediate-contract.Asked names-immediate-contract.Learnt (λ κs a r b. NamesImmediate (first a) r)
   pub cycle : States cycle-contract.Asked cycle-contract.Learnt (λ κs a r b. Cycles (first a, second a) r)
   pub step : States step-contract.Asked step-contract.Learnt
       (λ κs a r b. StepsMachine ((first a).now, second a, third a) (record { answer = r; after = (first b).now }))
-  pub core-of : States core-of-contract.Asked core-of-contract.Learnt (λ κs a r b. TakesApart (first a) r)
-  pub machine-from : States machine-from-contract.Asked machine-from-contract.Learnt (λ κs a r b. PutsTogether (first a, second a) r)
-  pub may-start : States may-start-contract.Asked may-start-contract.Learnt (λ κs a r b. MayStart (first a) r)
+  pub core_of_lem : States core-of-contract.Asked core-of-contract.Learnt (λ κs a r b. TakesApart (first a) r)
+  pub machine_from_lem : States machine-from-contract.Asked machine-from-contract.Learnt (λ κs a r b. PutsTogether (first a, second a) r)
+  pub may_start_lem : States may-start-contract.Asked may-start-contract.Learnt (λ κs a r b. MayStart (first a) r)
   pub run : States run-contract.Asked run-contract.Learnt
       (λ κs a r b. Runs (record { machine = first a; words = (second a).now; budget = third a; reports = (fourth a).now }) (record { answer = r; after = (fourth b).now }))
-  pub run-from-zero : States run-from-zero-contract.Asked run-from-zero-contract.Learnt
+  pub run_from_zero : States run-from-zero-contract.Asked run-from-zero-contract.Learnt
       (λ κs a r b. RunsFromZero ((first a).now, (second a).now) (record { answer = r; after = (second b).now }))
   pub check : States check-contract.Asked check-contract.Learnt (λ κs a r b. Checks (first a).now r)
   pub read : States read-contract.Asked read-contract.Learnt
@@ -77,88 +77,88 @@ pub record EveryContract : Type 1 where
   pub write : States write-contract.Asked write-contract.Learnt
       (λ κs a r b. WritesTrace ((first a).now, (second a).now) (record { answer = r; after = (second b).now }))
   pub kept : States kept-contract.Asked kept-contract.Learnt (λ κs a r b. Keeps (first a) r)
-  pub cycle-line : States cycle-line-contract.Asked cycle-line-contract.Learnt
+  pub cycle_line_lem : States cycle-line-contract.Asked cycle-line-contract.Learnt
       (λ κs a r b. CycleLines (record { number = first a; y = second a; mask = third a; ct = fourth a; t = fifth a }, (sixth a).now) (record { answer = r; after = (sixth b).now }))
-  pub state-line : States state-line-contract.Asked state-line-contract.Learnt
+  pub state_line_lem : States state-line-contract.Asked state-line-contract.Learnt
       (λ κs a r b. StateLines (first a, (second a).now) (record { answer = r; after = (second b).now }))
-  pub register-line : States register-line-contract.Asked register-line-contract.Learnt
+  pub register_line_lem : States register-line-contract.Asked register-line-contract.Learnt
       (λ κs a r b. RegisterLines (first a, second a, (third a).now) (record { answer = r; after = (third b).now }))
-  pub word-refused-line : States word-refused-line-contract.Asked word-refused-line-contract.Learnt
+  pub word_refused_line_lem : States word-refused-line-contract.Asked word-refused-line-contract.Learnt
       (λ κs a r b. WordRefusedLines (first a, (second a).now) (record { answer = r; after = (second b).now }))
   pub last_line : States last-line-contract.Asked last-line-contract.Learnt
       (λ κs a r b. LastLines (first a, second a, (third a).now) (record { answer = r; after = (third b).now }))
-  pub page-line : States page-line-contract.Asked page-line-contract.Learnt
+  pub page_line : States page-line-contract.Asked page-line-contract.Learnt
       (λ κs a r b. PageLines (first a, (second a).now, third a, (fourth a).now) (record { answer = r; after = (fourth b).now }))
-  pub words-line : States words-line-contract.Asked words-line-contract.Learnt
+  pub words_line_lem : States words-line-contract.Asked words-line-contract.Learnt
       (λ κs a r b. WordsLines ((first a).now, second a, (third a).now) (record { answer = r; after = (third b).now }))
-  pub fault-line : States fault-line-contract.Asked fault-line-contract.Learnt
+  pub fault_line_lem : States fault-line-contract.Asked fault-line-contract.Learnt
       (λ κs a r b. FaultLines (first a, (second a).now) (record { answer = r; after = (second b).now }))
-  pub remark-line : States remark-line-contract.Asked remark-line-contract.Learnt
+  pub remark_line_lem : States remark-line-contract.Asked remark-line-contract.Learnt
       (λ κs a r b. RemarkLines (first a, second a, (third a).now) (record { answer = r; after = (third b).now }))
-  pub hand-over : States hand-over-contract.Asked hand-over-contract.Learnt
+  pub hand_over : States hand-over-contract.Asked hand-over-contract.Learnt
       (λ κs a r b. MakesLine ((first a).now, (second a).now) (record { answer = r; after = (second b).now }))
-  pub run-trace : States run-trace-contract.Asked run-trace-contract.Learnt
+  pub run_trace : States run-trace-contract.Asked run-trace-contract.Learnt
       (λ κs a r b. ShowsRun ((first a).now, (second a).now, (third a).now) (record { answer = r; out = (second b).now; errors = (third b).now }))
-  pub unpack-trace : States unpack-trace-contract.Asked unpack-trace-contract.Learnt
+  pub unpack_trace : States unpack-trace-contract.Asked unpack-trace-contract.Learnt
       (λ κs a r b. ShowsWords ((first a).now, (second a).now, (third a).now) (record { answer = r; out = (second b).now; errors = (third b).now }))
-  pub take-text : States take-text-contract.Asked take-text-contract.Learnt
+  pub take_text : States take-text-contract.Asked take-text-contract.Learnt
       (λ κs a r b. TakesPieces (first a, (second a).now, (third a).now, (fourth a).now) (record { answer = r; out = (third b).now; errors = (fourth b).now }))
-  pub end-text : States end-text-contract.Asked end-text-contract.Learnt
+  pub end_text : States end-text-contract.Asked end-text-contract.Learnt
       (λ κs a r b. EndsTexts (first a, (second a).now, (third a).now, (fourth a).now) (record { answer = record { answer = r; after = (second b).now }; out = (third b).now; errors = (fourth b).now }))
   pub line_of : States line-of-contract.Asked line-of-contract.Learnt
       (λ κs a r b. PrintsWord (first a, (second a).now) (record { answer = r; after = (second b).now }))
   pub word_of : States word-of-contract.Asked word-of-contract.Learnt (λ κs a r b. ReadsWord (first a).now r)
-  pub data-line : States data-line-contract.Asked data-line-contract.Learnt
+  pub data_line_lem : States data-line-contract.Asked data-line-contract.Learnt
       (λ κs a r b. PrintsData (first a, (second a).now) (record { answer = r; after = (second b).now }))
   pub data_of : States data-of-contract.Asked data-of-contract.Learnt (λ κs a r b. ReadsData (first a).now r)
-  pub list-trace : States list-trace-contract.Asked list-trace-contract.Learnt
+  pub list_trace : States list-trace-contract.Asked list-trace-contract.Learnt
       (λ κs a r b. ShowsList ((first a).now, (second a).now, (third a).now) (record { answer = r; out = (second b).now; errors = (third b).now }))
-  pub read-lines : States read-lines-contract.Asked read-lines-contract.Learnt
+  pub read_lines : States read-lines-contract.Asked read-lines-contract.Learnt
       (λ κs a r b. AnswersLines (first a, (second a).now, (third a).now) (record { answer = r; after = (third b).now }))
 
-pub every-contract : EveryContract
-every-contract = record {
+pub every_contract : EveryContract
+every_contract = record {
   start = λ κs a r b. (refl, refl);
   take = λ κs a r b. (refl, refl);
   perform = λ κs a r b. (refl, refl);
-  write-back = λ κs a r b. (refl, refl);
+  write_back_lem = λ κs a r b. (refl, refl);
   decode = λ κs a r b. (refl, refl);
   look_up = λ κs a r b. (refl, refl);
   encode = λ κs a r b. (refl, refl);
-  takes-immediate = λ κs a r b. (refl, refl);
+  takes_immediate_lem = λ κs a r b. (refl, refl);
   number_of = λ κs a r b. (refl, refl);
-  numbered-row = λ κs a r b. (refl, refl);
-  plan-for = λ κs a r b. (refl, refl);
-  names-immediate = λ κs a r b. (refl, refl);
+  numbered_row = λ κs a r b. (refl, refl);
+  plan_for = λ κs a r b. (refl, refl);
+  names_immediate = λ κs a r b. (refl, refl);
   cycle = λ κs a r b. (refl, refl);
   step = λ κs a r b. (refl, refl);
-  core-of = λ κs a r b. (refl, refl);
-  machine-from = λ κs a r b. (refl, refl);
-  may-start = λ κs a r b. (refl, refl);
+  core_of_lem = λ κs a r b. (refl, refl);
+  machine_from_lem = λ κs a r b. (refl, refl);
+  may_start_lem = λ κs a r b. (refl, refl);
   run = λ κs a r b. (refl, refl);
-  run-from-zero = λ κs a r b. (refl, refl);
+  run_from_zero = λ κs a r b. (refl, refl);
   check = λ κs a r b. (refl, refl);
   read = λ κs a r b. (refl, refl);
   write = λ κs a r b. (refl, refl);
   kept = λ κs a r b. (refl, refl);
-  cycle-line = λ κs a r b. (refl, refl);
-  state-line = λ κs a r b. (refl, refl);
-  register-line = λ κs a r b. (refl, refl);
-  word-refused-line = λ κs a r b. (refl, refl);
+  cycle_line_lem = λ κs a r b. (refl, refl);
+  state_line_lem = λ κs a r b. (refl, refl);
+  register_line_lem = λ κs a r b. (refl, refl);
+  word_refused_line_lem = λ κs a r b. (refl, refl);
   last_line = λ κs a r b. (refl, refl);
-  page-line = λ κs a r b. (refl, refl);
-  words-line = λ κs a r b. (refl, refl);
-  fault-line = λ κs a r b. (refl, refl);
-  remark-line = λ κs a r b. (refl, refl);
-  hand-over = λ κs a r b. (refl, refl);
-  run-trace = λ κs a r b. (refl, refl);
-  unpack-trace = λ κs a r b. (refl, refl);
-  take-text = λ κs a r b. (refl, refl);
-  end-text = λ κs a r b. (refl, refl);
+  page_line = λ κs a r b. (refl, refl);
+  words_line_lem = λ κs a r b. (refl, refl);
+  fault_line_lem = λ κs a r b. (refl, refl);
+  remark_line_lem = λ κs a r b. (refl, refl);
+  hand_over = λ κs a r b. (refl, refl);
+  run_trace = λ κs a r b. (refl, refl);
+  unpack_trace = λ κs a r b. (refl, refl);
+  take_text = λ κs a r b. (refl, refl);
+  end_text = λ κs a r b. (refl, refl);
   line_of = λ κs a r b. (refl, refl);
   word_of = λ κs a r b. (refl, refl);
-  data-line = λ κs a r b. (refl, refl);
+  data_line_lem = λ κs a r b. (refl, refl);
   data_of = λ κs a r b. (refl, refl);
-  list-trace = λ κs a r b. (refl, refl);
-  read-lines = λ κs a r b. (refl, refl);
+  list_trace = λ κs a r b. (refl, refl);
+  read_lines = λ κs a r b. (refl, refl);
 }

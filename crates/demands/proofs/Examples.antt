@@ -1,22 +1,22 @@
 -- Every row of the table of examples holds, by computation.
 use mathlib.Core.Path.{refl}
 use lib.Count.{count_leading_zeros}
-use Rattle.alu.specs.Width.{complement, writeBack}
+use Rattle.alu.specs.Width.{complement, write_back}
 use Rattle.alu.specs.Flags.{flagged, with_sign, plain, linked}
-use Rattle.alu.specs.Operations.{plus, minus, twoOperand, oneOperand, movedUp, movedDown, shiftUp, shift, rotated, rotate, merge, compare, priority, prioritize, crcStep, crcForward, crcReverse, outcomeOf}
-use Rattle.isa.specs.Words.{decodeOf, takesImmediate}
-use Rattle.plan.specs.Plans.{workOf, plan_of}
-use Rattle.machine.specs.Judging.{judgementOf}
+use Rattle.alu.specs.Operations.{plus, minus, two_operand, one_operand, moved_up, moved_down, shift_up, shift, rotated, rotate, merge, compare, priority, prioritize, crc_step, crc_forward, crc_reverse, outcome_of}
+use Rattle.isa.specs.Words.{decode_of, takes_immediate}
+use Rattle.plan.specs.Plans.{work_of, plan_of}
+use Rattle.machine.specs.Judging.{judgement_of}
 use Rattle.machine.specs.Seeing.{view_of}
-use Rattle.machine.specs.Acting.{outcomeFor, effect_of}
+use Rattle.machine.specs.Acting.{outcome_for, effect_of}
 use Rattle.machine.specs.Settling.{settled_of}
-use Rattle.machine.specs.Reporting.{conditionOf}
-use Rattle.machine.specs.Cycles.{cycleOf}
+use Rattle.machine.specs.Reporting.{condition_of}
+use Rattle.machine.specs.Cycles.{cycle_of}
 use Rattle.demands.specs.Examples.{AllHold, examples}
 
-pub examples-hold : AllHold examples
-unfolding complement writeBack flagged with_sign plain linked plus minus twoOperand oneOperand movedUp movedDown shiftUp shift rotated rotate merge compare priority prioritize crcStep crcForward crcReverse outcomeOf decodeOf takesImmediate workOf plan_of judgementOf view_of outcomeFor effect_of settled_of conditionOf cycleOf count_leading_zeros
-examples-hold = (
+pub examples_hold : AllHold examples
+unfolding complement write_back flagged with_sign plain linked plus minus two_operand one_operand moved_up moved_down shift_up shift rotated rotate merge compare priority prioritize crc_step crc_forward crc_reverse outcome_of decode_of takes_immediate work_of plan_of judgement_of view_of outcome_for effect_of settled_of condition_of cycle_of count_leading_zeros
+examples_hold = (
   record { decoded = refl; answered = refl; register = refl; acc = refl; flags = tt },
   (
     record { decoded = refl; answered = refl; register = refl; acc = refl; flags = tt },

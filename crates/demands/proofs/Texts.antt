@@ -7,23 +7,23 @@ use Prim.Native.Nat.{ℕ, zero, suc, ◌-◌, ◌*◌, ◌/◌, ◌≤◌}
 use native.Mathlib.Omega.{arith}
 use lib.ListN.{length, take, drop}
 use lib.Seq.{take_at}
-use Rattle.choice.specs.Tells.{acceptedWhole}
+use Rattle.choice.specs.Tells.{accepted_whole}
 use Rattle.text.specs.declared.Stop.{Stop}
 use Rattle.text.specs.declared.Taken.{Taken}
-use Rattle.text.specs.Lines.{wordsPerLine}
-use Rattle.text.specs.Taking.{start_of, Took, takeFrom}
+use Rattle.text.specs.Lines.{words_per_line}
+use Rattle.text.specs.Taking.{start_of, Took, take_from}
 use Rattle.trace.specs.declared.Filled.{Filled}
-use Rattle.trace.specs.Answers.{filledTells}
-use Rattle.trace.specs.Layout.{blockBytes, recordsAt, part, words_of, Bytes}
-use Rattle.trace.specs.Blocks.{count_of, recordsEnd, recordWords}
-use Rattle.trace.specs.Reading.{blocksOf, allRecordWords, read_of, readWords}
+use Rattle.trace.specs.Answers.{filled_tells}
+use Rattle.trace.specs.Layout.{block_bytes, records_at, part, words_of, Bytes}
+use Rattle.trace.specs.Blocks.{count_of, records_end, record_words}
+use Rattle.trace.specs.Reading.{blocks_of, all_record_words, read_of, read_words}
 use Rattle.trace.proofs.Words.{bytes_take, bytes_drop}
-use Rattle.trace.proofs.Answered.{read-says}
+use Rattle.trace.proofs.Answered.{read_says}
 use Rattle.trace.proofs.Trips.{left_by, made-read}
-use Rattle.lines.specs.Words.{text_of, AllWords, allRead}
-use Rattle.lines.proofs.ReadBack.{text-read}
+use Rattle.lines.specs.Words.{text_of, AllWords, all_read}
+use Rattle.lines.proofs.ReadBack.{text_read}
 use Rattle.demands.specs.Calls.{Filling, TakesText, ReadsTrace, WritesTrace}
-use Rattle.demands.proofs.Conversions.{trace-there-and-back}
+use Rattle.demands.proofs.Conversions.{trace_there_and_back}
 
 -- words of two bytes have 16 bits
 words_small : (l : List ℕ) → Bytes l → AllWords (words_of l)
@@ -31,52 +31,52 @@ words_small [] h = tt
 words_small (a ∷ []) h = tt
 words_small (a ∷ b ∷ l) h = (omega (arith, h 0, h 1), words_small l (λ i. h (suc (suc i))))
 
-small-both : (a b : List ℕ) → AllWords a → AllWords b → AllWords (a ++ b)
-small-both [] b p q = q
-small-both (x ∷ a) b p q = (p.0, small-both a b p.1 q)
+small_both : (a b : List ℕ) → AllWords a → AllWords b → AllWords (a ++ b)
+small_both [] b p q = q
+small_both (x ∷ a) b p q = (p.0, small_both a b p.1 q)
 
-record-small : (block : List ℕ) → Bytes block → AllWords (recordWords 3 block)
-unfolding recordWords
-record-small block h =
-    words_small (part recordsAt (recordsEnd 3 (count_of block)) block)
-    (bytes_take (recordsEnd 3 (count_of block) - recordsAt) (drop recordsAt block) (bytes_drop recordsAt block h))
+record_small : (block : List ℕ) → Bytes block → AllWords (record_words 3 block)
+unfolding record_words
+record_small block h =
+    words_small (part records_at (records_end 3 (count_of block)) block)
+    (bytes_take (records_end 3 (count_of block) - records_at) (drop records_at block) (bytes_drop records_at block h))
 
-blocks-small : (m : ℕ) (t : List ℕ) → Bytes t → AllWords (allRecordWords 3 (blocksOf m t))
-blocks-small zero t h = tt
-blocks-small (suc m) t h =
-    small-both (recordWords 3 (take blockBytes t)) (allRecordWords 3 (blocksOf m (drop blockBytes t)))
-    (record-small (take blockBytes t) (bytes_take blockBytes t h))
-    (blocks-small m (drop blockBytes t) (bytes_drop blockBytes t h))
+blocks_small : (m : ℕ) (t : List ℕ) → Bytes t → AllWords (all_record_words 3 (blocks_of m t))
+blocks_small zero t h = tt
+blocks_small (suc m) t h =
+    small_both (record_words 3 (take block_bytes t)) (all_record_words 3 (blocks_of m (drop block_bytes t)))
+    (record_small (take block_bytes t) (bytes_take block_bytes t h))
+    (blocks_small m (drop block_bytes t) (bytes_drop block_bytes t h))
 
 module _ (t lent : List ℕ) (n : ℕ) (o : Filling Filled) (bytes : Bytes t) (reads : ReadsTrace (t, lent) o) (e : o.answer ≡ Filled.Accepted n) where
   -- the words that were read: as many as the answer says, and whole lines of them
   abbrev cycles : List ℕ
   cycles = take n o.after
 
-  told : read_of 3 t (length lent) ≡ acceptedWhole n
-  told = sym reads.told ∙ ap filledTells e
+  told : read_of 3 t (length lent) ≡ accepted_whole n
+  told = sym reads.told ∙ ap filled_tells e
 
-  long : length (readWords 3 t) ≡ n
+  long : length (read_words 3 t) ≡ n
   long = (made-read 3 (omega arith) refl t (length lent) n (length t) told bytes (omega arith)).0
 
-  same : cycles ≡ readWords 3 t
-  same = ap (take n) (left_by (read_of 3 t (length lent)) n (readWords 3 t) lent o.after told reads.written) ∙ take_at (readWords 3 t) (drop n lent) n long
+  same : cycles ≡ read_words 3 t
+  same = ap (take n) (left_by (read_of 3 t (length lent)) n (read_words 3 t) lent o.after told reads.written) ∙ take_at (read_words 3 t) (drop n lent) n long
 
   size : length cycles ≡ n
   size = ap length same ∙ long
 
   small : AllWords cycles
-  small = subst AllWords (sym same) (blocks-small (length t / blockBytes) t bytes)
+  small = subst AllWords (sym same) (blocks_small (length t / block_bytes) t bytes)
 
-  whole : wordsPerLine * (length cycles / wordsPerLine) ≡ length cycles
-  whole = omega (arith, size, (read-says 3 t (length lent) n told).words)
+  whole : words_per_line * (length cycles / words_per_line) ≡ length cycles
+  whole = omega (arith, size, (read_says 3 t (length lent) n told).words)
 
   -- their text, taken: no fault, and every word found in its place
   module _ (words : List ℕ) (p : Filling Taken) (takes : TakesText (start_of, text_of cycles, words) p) (room : n ≤ length words) where
-    read : takeFrom 0 start_of (text_of cycles) words ≡ allRead cycles words
-    read = text-read cycles words small whole (omega (arith, size))
+    read : take_from 0 start_of (text_of cycles) words ≡ all_read cycles words
+    read = text_read cycles words small whole (omega (arith, size))
 
-    answered : p.answer ≡ (allRead cycles words).taken
+    answered : p.answer ≡ (all_read cycles words).taken
     answered = takes.taken ∙ ap (λ (k : Took). k.taken) read
 
     found : p.answer.reader.found ≡ length cycles
@@ -92,5 +92,5 @@ module _ (t lent : List ℕ) (n : ℕ) (o : Filling Filled) (bytes : Bytes t) (r
     pub unpacked-and-packed : (trace : List ℕ) (q : Filling Filled) → WritesTrace (take p.answer.reader.found p.after, trace) q → length t ≤ length trace
         → (p.answer.stop ≡ Stop.TextEnd) × (p.answer.reader.faults ≡ 0) × (q.answer ≡ Filled.Accepted (length t)) × (q.after ≡ t ++ drop (length t) trace)
     unpacked-and-packed trace q w h =
-        let again = trace-there-and-back t lent n o bytes reads e trace q (subst (λ (l : List ℕ). WritesTrace (l, trace) q) same-words w) h in
+        let again = trace_there_and_back t lent n o bytes reads e trace q (subst (λ (l : List ℕ). WritesTrace (l, trace) q) same-words w) h in
         (ap (λ (k : Taken). k.stop) answered, ap (λ (k : Taken). k.reader.faults) answered, again.0, again.1)

@@ -10,11 +10,11 @@ use Rattle.choice.specs.Pick.{pick}
 use Rattle.choice.specs.Checks.{refusal}
 use Rattle.alu.specs.declared.Mode.{Mode}
 use Rattle.alu.specs.declared.Mode.TheVariants.{Byte}
-use Rattle.alu.specs.Width.{width_of, writeBack}
+use Rattle.alu.specs.Width.{width_of, write_back}
 use Rattle.alu.proofs.Written.{written_low}
 use Rattle.isa.specs.declared.Named.{Named}
 use Rattle.isa.specs.Fields.{mode_of}
-use Rattle.isa.specs.Words.{named_by, takesImmediate}
+use Rattle.isa.specs.Words.{named_by, takes_immediate}
 use Rattle.plan.specs.declared.Destination.{Destination}
 use Rattle.plan.specs.declared.Destination.TheVariants.{ToY, ToAcc, ToRam, ToStatus, ToAccAndStatus}
 use Rattle.plan.specs.declared.Plan.{Plan}
@@ -26,68 +26,68 @@ use Rattle.machine.specs.declared.Machine.{Machine}
 use Rattle.machine.specs.declared.Words.{Words}
 use Rattle.machine.specs.declared.View.{View}
 use Rattle.machine.specs.declared.Effect.{Effect}
-use Rattle.machine.specs.Pins.{ienHigh, dleHigh}
-use Rattle.machine.specs.Judging.{Refuse, Wait, beginChecks, checksOf, wordAbout, acceptedAs, perform, judgementOf}
+use Rattle.machine.specs.Pins.{ien_high, dle_high}
+use Rattle.machine.specs.Judging.{Refuse, Wait, begin_checks, checks_of, word_about, accepted_as, perform, judgement_of}
 use Rattle.machine.specs.Seeing.{view_of}
 use Rattle.machine.specs.Acting.{effect_of}
-use Rattle.machine.specs.Settling.{latched, ramAfter, accAfter, settled_of, UpperBytesKept}
-use Rattle.machine.specs.Cycles.{Turned, turnFrom, performedTurn, turn_of, cycleOf}
+use Rattle.machine.specs.Settling.{latched, ram_after, acc_after, settled_of, UpperBytesKept}
+use Rattle.machine.specs.Cycles.{Turned, turn_from, performed_turn, turn_of, cycle_of}
 use Rattle.machine.proofs.Kept.{settled-ram, settled-acc}
 use Rattle.demands.specs.Isolation.{low_byte, SameLowBytes, ByteMark, LinesAlike, CyclesAlike}
 
 -- what a byte write leaves in low bytes
-map-set : (f : ℕ → ℕ) (l : List ℕ) (i x : ℕ) → map f (set l i x) ≡ set (map f l) i (f x)
-map-set f [] i x = refl
-map-set f (y ∷ l) zero x = refl
-map-set f (y ∷ l) (suc i) x = ap (λ (r : List ℕ). f y ∷ r) (map-set f l i x)
+map_set : (f : ℕ → ℕ) (l : List ℕ) (i x : ℕ) → map f (set l i x) ≡ set (map f l) i (f x)
+map_set f [] i x = refl
+map_set f (y ∷ l) zero x = refl
+map_set f (y ∷ l) (suc i) x = ap (λ (r : List ℕ). f y ∷ r) (map_set f l i x)
 
-ram-low : (d : Destination) (k y : ℕ) (a b : List ℕ) → map low_byte a ≡ map low_byte b → map low_byte (ramAfter d Byte k y a) ≡ map low_byte (ramAfter d Byte k y b)
-ram-low ToY k y a b e = e
-ram-low ToAcc k y a b e = e
-ram-low ToRam k y a b e = stored a ∙ ap (λ (l : List ℕ). set l (k % 32) (low_byte y)) e ∙ sym (stored b)
+ram_low : (d : Destination) (k y : ℕ) (a b : List ℕ) → map low_byte a ≡ map low_byte b → map low_byte (ram_after d Byte k y a) ≡ map low_byte (ram_after d Byte k y b)
+ram_low ToY k y a b e = e
+ram_low ToAcc k y a b e = e
+ram_low ToRam k y a b e = stored a ∙ ap (λ (l : List ℕ). set l (k % 32) (low_byte y)) e ∙ sym (stored b)
   where
-    stored : (l : List ℕ) → map low_byte (set l (k % 32) (writeBack (width_of Byte) (get_or l (k % 32) 0) y)) ≡ set (map low_byte l) (k % 32) (low_byte y)
+    stored : (l : List ℕ) → map low_byte (set l (k % 32) (write_back (width_of Byte) (get_or l (k % 32) 0) y)) ≡ set (map low_byte l) (k % 32) (low_byte y)
     stored l =
-        map-set low_byte l (k % 32) (writeBack (width_of Byte) (get_or l (k % 32) 0) y)
+        map_set low_byte l (k % 32) (write_back (width_of Byte) (get_or l (k % 32) 0) y)
         ∙ ap (λ (x : ℕ). set (map low_byte l) (k % 32) x) (written_low (width_of Byte) (get_or l (k % 32) 0) y)
-ram-low ToStatus k y a b e = e
-ram-low ToAccAndStatus k y a b e = e
+ram_low ToStatus k y a b e = e
+ram_low ToAccAndStatus k y a b e = e
 
-acc-low : (d : Destination) (y a b : ℕ) → low_byte a ≡ low_byte b → low_byte (accAfter d Byte y a) ≡ low_byte (accAfter d Byte y b)
-acc-low ToY y a b e = e
-acc-low ToAcc y a b e = written_low (width_of Byte) a y ∙ sym (written_low (width_of Byte) b y)
-acc-low ToRam y a b e = e
-acc-low ToStatus y a b e = e
-acc-low ToAccAndStatus y a b e = written_low (width_of Byte) a y ∙ sym (written_low (width_of Byte) b y)
+acc_low : (d : Destination) (y a b : ℕ) → low_byte a ≡ low_byte b → low_byte (acc_after d Byte y a) ≡ low_byte (acc_after d Byte y b)
+acc_low ToY y a b e = e
+acc_low ToAcc y a b e = written_low (width_of Byte) a y ∙ sym (written_low (width_of Byte) b y)
+acc_low ToRam y a b e = e
+acc_low ToStatus y a b e = e
+acc_low ToAccAndStatus y a b e = written_low (width_of Byte) a y ∙ sym (written_low (width_of Byte) b y)
 
 -- what relates both choices relates the chosen
 chosen : {A : Type 0} (R : A → A → Type 0) (b : Bool) (x y x' y' : A) → R x x' → R y y' → R (pick b x y) (pick b x' y')
 chosen R true x y x' y' p q = p
 chosen R false x y x' y' p q = q
 
-settled-alike : (k : ℕ) (a b : Registers) (e : Effect) (pins : ℕ) → SameLowBytes a b → SameLowBytes (settled_of Byte k a e pins) (settled_of Byte k b e pins)
+settled_alike : (k : ℕ) (a b : Registers) (e : Effect) (pins : ℕ) → SameLowBytes a b → SameLowBytes (settled_of Byte k a e pins) (settled_of Byte k b e pins)
 unfolding settled_of
-settled-alike k a b e pins s = record {
-  ram = chosen (λ (x y : List ℕ). map low_byte x ≡ map low_byte y) (ienHigh pins) a.ram _ b.ram _ s.ram (ram-low e.destination k e.result a.ram b.ram s.ram);
-  acc = chosen (λ (x y : ℕ). low_byte x ≡ low_byte y) (ienHigh pins) a.acc _ b.acc _ s.acc (acc-low e.destination e.result a.acc b.acc s.acc);
+settled_alike k a b e pins s = record {
+  ram = chosen (λ (x y : List ℕ). map low_byte x ≡ map low_byte y) (ien_high pins) a.ram _ b.ram _ s.ram (ram_low e.destination k e.result a.ram b.ram s.ram);
+  acc = chosen (λ (x y : ℕ). low_byte x ≡ low_byte y) (ien_high pins) a.acc _ b.acc _ s.acc (acc_low e.destination e.result a.acc b.acc s.acc);
   latch = s.latch;
   status = rw s.status;
   waiting = refl;
 }
 
-latched-alike : (a b : Registers) (x y pins : ℕ) → SameLowBytes a b → low_byte x ≡ low_byte y → SameLowBytes (latched a x pins) (latched b y pins)
-latched-alike a b x y pins s e = record {
+latched_alike : (a b : Registers) (x y pins : ℕ) → SameLowBytes a b → low_byte x ≡ low_byte y → SameLowBytes (latched a x pins) (latched b y pins)
+latched_alike a b x y pins s e = record {
   ram = s.ram;
   acc = s.acc;
-  latch = chosen (λ (u v : ℕ). low_byte u ≡ low_byte v) (dleHigh pins) x a.latch y b.latch e s.latch;
+  latch = chosen (λ (u v : ℕ). low_byte u ≡ low_byte v) (dle_high pins) x a.latch y b.latch e s.latch;
   status = s.status;
   waiting = s.waiting;
 }
 
 -- a byte instruction sees the same in both
-view-same : (k : ℕ) (a b : Registers) (x y : ℕ) → SameLowBytes a b → low_byte x ≡ low_byte y → view_of Byte k a x ≡ view_of Byte k b y
+view_same : (k : ℕ) (a b : Registers) (x y : ℕ) → SameLowBytes a b → low_byte x ≡ low_byte y → view_of Byte k a x ≡ view_of Byte k b y
 unfolding view_of
-view-same k a b x y s e = λ i. record { ram = register i; acc = s.acc i; latch = s.latch i; immediate = e i; status = s.status i }
+view_same k a b x y s e = λ i. record { ram = register i; acc = s.acc i; latch = s.latch i; immediate = e i; status = s.status i }
   where
     register : low_byte (get_or a.ram (k % 32) 0) ≡ low_byte (get_or b.ram (k % 32) 0)
     register =
@@ -108,28 +108,28 @@ unchanged a = record { ram = refl; acc = refl }
 -- a performed instruction; r and s are a and b with D latched
 module _ (i : Named) (p : Plan) (r s : Registers) (pins : ℕ) (same : SameLowBytes r s) where
   abbrev turn : Mode → Registers → Effect → Turned
-  turn mode x e = turnFrom i p x (settled_of mode p.register x e pins) e pins
+  turn mode x e = turn_from i p x (settled_of mode p.register x e pins) e pins
 
   by-effect : (e : Effect) → TurnsAlike r s (turn Byte r e) (turn Byte s e)
   unfolding settled_of
   by-effect e = record {
     answer = rw same.status;
-    ends = settled-alike p.register r s e pins same;
+    ends = settled_alike p.register r s e pins same;
     first = record { ram = settled-ram p.register r e pins; acc = settled-acc p.register r e pins };
     second = record { ram = settled-ram p.register s e pins; acc = settled-acc p.register s e pins };
   }
 
-  performed-alike : (x y : ℕ) → p.mode ≡ Byte → low_byte x ≡ low_byte y → TurnsAlike r s (performedTurn i p r x pins) (performedTurn i p s y pins)
+  performed-alike : (x y : ℕ) → p.mode ≡ Byte → low_byte x ≡ low_byte y → TurnsAlike r s (performed_turn i p r x pins) (performed_turn i p s y pins)
   performed-alike x y m e =
       subst⁻¹ (λ (z : Mode). TurnsAlike r s (turn z r (effect_of p (view_of z p.register r x))) (turn z s (effect_of p (view_of z p.register s y)))) m
       (subst (λ (v : View). TurnsAlike r s (turn Byte r (effect_of p (view_of Byte p.register r x))) (turn Byte s (effect_of p v)))
-      (view-same p.register r s x y same e)
+      (view_same p.register r s x y same e)
       (by-effect (effect_of p (view_of Byte p.register r x))))
 
 -- the byte mark is byte mode
-byte-plan : (w : ℕ) → ByteMark w → (plan_of (named_by w)).mode ≡ Byte
+byte_plan : (w : ℕ) → ByteMark w → (plan_of (named_by w)).mode ≡ Byte
 unfolding plan_of
-byte-plan w b = ap mode_of b
+byte_plan w b = ap mode_of b
 
 -- two judged cycles
 module _ (m n : Machine) (same : SameLowBytes m.registers n.registers) (c d : Words) (alike : CyclesAlike m.registers.waiting c d) where
@@ -140,7 +140,7 @@ module _ (m n : Machine) (same : SameLowBytes m.registers n.registers) (c d : Wo
   s = latched n.registers d.input c.pins
 
   after-latch : SameLowBytes r s
-  after-latch = latched-alike m.registers n.registers c.input d.input c.pins same alike.input
+  after-latch = latched_alike m.registers n.registers c.input d.input c.pins same alike.input
 
   -- from the latched registers to those at the start: the latch is not among RAM and ACC
   since : (t u : Turned) → TurnsAlike r s t u → TurnsAlike m.registers n.registers t u
@@ -169,16 +169,16 @@ module _ (m n : Machine) (same : SameLowBytes m.registers n.registers) (c d : Wo
   performs : (w x y : ℕ) → ByteMark w → low_byte x ≡ low_byte y
       → TurnsAlike m.registers n.registers (turn_of (perform (named_by w) x) m r c) (turn_of (perform (named_by w) y) n s d')
   performs w x y b e =
-      since (performedTurn (named_by w) (plan_of (named_by w)) r x c.pins) (performedTurn (named_by w) (plan_of (named_by w)) s y c.pins)
-      (performed-alike (named_by w) (plan_of (named_by w)) r s c.pins after-latch x y (byte-plan w b) e)
+      since (performed_turn (named_by w) (plan_of (named_by w)) r x c.pins) (performed_turn (named_by w) (plan_of (named_by w)) s y c.pins)
+      (performed-alike (named_by w) (plan_of (named_by w)) r s c.pins after-latch x y (byte_plan w b) e)
 
   -- an accepted one
-  accepted-alike : (w : Waiting) → LinesAlike w c.lines d.lines → ByteMark (wordAbout w c.lines)
-      → TurnsAlike m.registers n.registers (turn_of (acceptedAs w c) m r c) (turn_of (acceptedAs w d') n s d')
+  accepted-alike : (w : Waiting) → LinesAlike w c.lines d.lines → ByteMark (word_about w c.lines)
+      → TurnsAlike m.registers n.registers (turn_of (accepted_as w c) m r c) (turn_of (accepted_as w d') n s d')
   accepted-alike Nothing e b =
-      subst (λ (l : ℕ). TurnsAlike m.registers n.registers (turn_of (acceptedAs Nothing c) m r c)
-      (turn_of (acceptedAs Nothing (record { lines = l; input = d.input; pins = c.pins })) n s d')) e
-      (by-test (takesImmediate c.lines))
+      subst (λ (l : ℕ). TurnsAlike m.registers n.registers (turn_of (accepted_as Nothing c) m r c)
+      (turn_of (accepted_as Nothing (record { lines = l; input = d.input; pins = c.pins })) n s d')) e
+      (by-test (takes_immediate c.lines))
     where
       by-test : (t : Bool) → TurnsAlike m.registers n.registers (turn_of (pick t Wait (perform (named_by c.lines) 0)) m r c)
           (turn_of (pick t Wait (perform (named_by c.lines) 0)) n s d')
@@ -187,28 +187,28 @@ module _ (m n : Machine) (same : SameLowBytes m.registers n.registers) (c d : Wo
   accepted-alike (Held w) e b = performs w c.lines d.lines b e
 
   -- the same number in both
-  numbers : (w : Waiting) → LinesAlike w c.lines d.lines → refusal (checksOf w c) ≡ refusal (checksOf w d')
-  numbers Nothing e = ap (λ (l : ℕ). refusal (beginChecks (record { lines = l; input = d.input; pins = c.pins }))) e
+  numbers : (w : Waiting) → LinesAlike w c.lines d.lines → refusal (checks_of w c) ≡ refusal (checks_of w d')
+  numbers Nothing e = ap (λ (l : ℕ). refusal (begin_checks (record { lines = l; input = d.input; pins = c.pins }))) e
   numbers (Held w) e = refl
 
-  turns-by : (w : Waiting) → LinesAlike w c.lines d.lines → (refusal (checksOf w c) ≡ 0 → ByteMark (wordAbout w c.lines))
-      → TurnsAlike m.registers n.registers (turn_of (judgementOf w c) m r c) (turn_of (judgementOf w d') n s d')
-  unfolding judgementOf
+  turns-by : (w : Waiting) → LinesAlike w c.lines d.lines → (refusal (checks_of w c) ≡ 0 → ByteMark (word_about w c.lines))
+      → TurnsAlike m.registers n.registers (turn_of (judgement_of w c) m r c) (turn_of (judgement_of w d') n s d')
+  unfolding judgement_of
   turns-by w e b =
-      subst (λ (k : ℕ). TurnsAlike m.registers n.registers (turn_of (judgementOf w c) m r c) (turn_of (pick (eqb k 0) (acceptedAs w d') (Refuse k)) n s d'))
-      (numbers w e) (by-test (eqb (refusal (checksOf w c)) 0) refl)
+      subst (λ (k : ℕ). TurnsAlike m.registers n.registers (turn_of (judgement_of w c) m r c) (turn_of (pick (eqb k 0) (accepted_as w d') (Refuse k)) n s d'))
+      (numbers w e) (by-test (eqb (refusal (checks_of w c)) 0) refl)
     where
-      by-test : (t : Bool) → eqb (refusal (checksOf w c)) 0 ≡ t
-          → TurnsAlike m.registers n.registers (turn_of (pick t (acceptedAs w c) (Refuse (refusal (checksOf w c)))) m r c)
-          (turn_of (pick t (acceptedAs w d') (Refuse (refusal (checksOf w c)))) n s d')
-      by-test true q = accepted-alike w e (b (eqb-true (refusal (checksOf w c)) 0 q))
-      by-test false q = refuses (refusal (checksOf w c))
+      by-test : (t : Bool) → eqb (refusal (checks_of w c)) 0 ≡ t
+          → TurnsAlike m.registers n.registers (turn_of (pick t (accepted_as w c) (Refuse (refusal (checks_of w c)))) m r c)
+          (turn_of (pick t (accepted_as w d') (Refuse (refusal (checks_of w c)))) n s d')
+      by-test true q = accepted-alike w e (b (eqb-true (refusal (checks_of w c)) 0 q))
+      by-test false q = refuses (refusal (checks_of w c))
 
   -- a mark is asked only of a word that is not refused
-  pub turns-alike : (refusal (checksOf m.registers.waiting c) ≡ 0 → ByteMark (wordAbout m.registers.waiting c.lines))
-      → TurnsAlike m.registers n.registers (cycleOf m c) (cycleOf n d)
-  unfolding cycleOf
+  pub turns-alike : (refusal (checks_of m.registers.waiting c) ≡ 0 → ByteMark (word_about m.registers.waiting c.lines))
+      → TurnsAlike m.registers n.registers (cycle_of m c) (cycle_of n d)
+  unfolding cycle_of
   turns-alike b =
-      subst (λ (p : ℕ). TurnsAlike m.registers n.registers (cycleOf m c) (cycleOf n (record { lines = d.lines; input = d.input; pins = p }))) alike.pins
-      (subst (λ (w : Waiting). TurnsAlike m.registers n.registers (cycleOf m c) (turn_of (judgementOf w d') n s d')) same.waiting
+      subst (λ (p : ℕ). TurnsAlike m.registers n.registers (cycle_of m c) (cycle_of n (record { lines = d.lines; input = d.input; pins = p }))) alike.pins
+      (subst (λ (w : Waiting). TurnsAlike m.registers n.registers (cycle_of m c) (turn_of (judgement_of w d') n s d')) same.waiting
       (turns-by m.registers.waiting alike.lines b))

@@ -1,5 +1,5 @@
 -- None of the six wrong emulators keeps what `run` promises: each is refuted by a run of one or two cycles (at the end). The right one does, on
--- every input: `right-faithful`, before them.
+-- every input: `right_faithful`, before them.
 use mathlib.Core.Path.{◌≡◌, refl, sym, ap, ◌∙◌}
 use mathlib.Core.Bool.{Bool, true, false}
 use mathlib.Core.List.{List, [], ◌∷◌, ◌++◌}
@@ -9,67 +9,67 @@ use native.Mathlib.Omega.{arith}
 use lib.Dec.{eqb}
 use lib.ListN.{length, take, drop, replicate}
 use Rattle.choice.specs.Pick.{pick}
-use Rattle.choice.specs.Tells.{Tells, refused, Placed, acceptedWhole}
-use Rattle.alu.specs.Width.{complement, writeBack}
+use Rattle.choice.specs.Tells.{Tells, refused, Placed, accepted_whole}
+use Rattle.alu.specs.Width.{complement, write_back}
 use Rattle.alu.specs.Flags.{flagged, with_sign}
-use Rattle.alu.specs.Operations.{plus, oneOperand, outcomeOf}
-use Rattle.isa.specs.Words.{decodeOf, takesImmediate}
-use Rattle.plan.specs.Plans.{workOf, plan_of}
+use Rattle.alu.specs.Operations.{plus, one_operand, outcome_of}
+use Rattle.isa.specs.Words.{decode_of, takes_immediate}
+use Rattle.plan.specs.Plans.{work_of, plan_of}
 use Rattle.machine.specs.declared.Machine.{Machine}
 use Rattle.machine.specs.declared.Words.{Words}
 use Rattle.machine.specs.declared.Report.{Report}
-use Rattle.machine.specs.Judging.{judgementOf, mayStart}
+use Rattle.machine.specs.Judging.{judgement_of, may_start}
 use Rattle.machine.specs.Seeing.{view_of}
-use Rattle.machine.specs.Acting.{outcomeFor, effect_of}
+use Rattle.machine.specs.Acting.{outcome_for, effect_of}
 use Rattle.machine.specs.Settling.{settled_of}
-use Rattle.machine.specs.Reporting.{conditionOf}
-use Rattle.machine.specs.Cycles.{cycleOf}
+use Rattle.machine.specs.Reporting.{condition_of}
+use Rattle.machine.specs.Cycles.{cycle_of}
 use Rattle.run.specs.declared.Ending.TheVariants.{Done}
 use Rattle.run.specs.declared.Ran.{Ran}
-use Rattle.run.specs.Splitting.{cyclesOf}
-use Rattle.run.specs.Courses.{Finish, done, Course, closing, turnThen, run_from, reportsOf}
-use Rattle.run.specs.Runs.{startRefusal, run_of, zeroMachine, Summary, placed, summaryOf, endingTells, ranTells, endingOf}
-use Rattle.run.proofs.Laws.{ending-one}
+use Rattle.run.specs.Splitting.{cycles_of}
+use Rattle.run.specs.Courses.{Finish, done, Course, closing, turn_then, run_from, reports_of}
+use Rattle.run.specs.Runs.{start_refusal, run_of, zero_machine, Summary, placed, summary_of, ending_tells, ran_tells, ending_of}
+use Rattle.run.proofs.Laws.{ending_one}
 use Rattle.demands.specs.Calls.{RunInput}
-use Rattle.demands.specs.Wrong.{Emulator, Faithful, RefusesEverything, FixedAnswer, NeverChanges, CopiesFirst, InventsCounts, CountsEveryCycle, courseFor, right}
+use Rattle.demands.specs.Wrong.{Emulator, Faithful, RefusesEverything, FixedAnswer, NeverChanges, CopiesFirst, InventsCounts, CountsEveryCycle, course_for, right}
 
 -- a course closes with a refusal, or is done or stopped
 abbrev Closed : Tells Finish → Type 0
-Closed close = (k : ℕ) → endingTells (endingOf (placed close k)) ≡ placed close k
+Closed close = (k : ℕ) → ending_tells (ending_of (placed close k)) ≡ placed close k
 
-turn-closed : (answer : Tells Report) (v : Option Report) (next : Machine) (rest : Course) → Closed rest.close
-    → Closed (turnThen (record { number = answer.number; value = v }) next rest).close
-turn-closed answer (some r) next rest c = c
-turn-closed answer none next rest c = λ k. refl
+turn_closed : (answer : Tells Report) (v : Option Report) (next : Machine) (rest : Course) → Closed rest.close
+    → Closed (turn_then (record { number = answer.number; value = v }) next rest).close
+turn_closed answer (some r) next rest c = c
+turn_closed answer none next rest c = λ k. refl
 
-cycles-closed : (m : Machine) (budget : ℕ) (cycles : List Words) → Closed (run_from m budget cycles).close
+cycles_closed : (m : Machine) (budget : ℕ) (cycles : List Words) → Closed (run_from m budget cycles).close
 unfolding run_from
-cycles-closed m budget [] = λ k. refl
-cycles-closed m zero (c ∷ cycles) = λ k. refl
-cycles-closed m (suc budget) (c ∷ cycles) =
-    turn-closed (cycleOf m c).answer (cycleOf m c).answer.value (cycleOf m c).machine (run_from (cycleOf m c).machine budget cycles)
-    (cycles-closed (cycleOf m c).machine budget cycles)
+cycles_closed m budget [] = λ k. refl
+cycles_closed m zero (c ∷ cycles) = λ k. refl
+cycles_closed m (suc budget) (c ∷ cycles) =
+    turn_closed (cycle_of m c).answer (cycle_of m c).answer.value (cycle_of m c).machine (run_from (cycle_of m c).machine budget cycles)
+    (cycles_closed (cycle_of m c).machine budget cycles)
 
-run-closed : (i : RunInput) → Closed (courseFor i).close
+run_closed : (i : RunInput) → Closed (course_for i).close
 unfolding run_of
-run-closed i = by-test (eqb (startRefusal i.machine i.words (length i.reports)) 0)
+run_closed i = by-test (eqb (start_refusal i.machine i.words (length i.reports)) 0)
   where
-    by-test : (b : Bool) → Closed (pick b (run_from i.machine i.budget (cyclesOf i.words)) (closing (refused (startRefusal i.machine i.words (length i.reports))))).close
-    by-test true = cycles-closed i.machine i.budget (cyclesOf i.words)
+    by-test : (b : Bool) → Closed (pick b (run_from i.machine i.budget (cycles_of i.words)) (closing (refused (start_refusal i.machine i.words (length i.reports))))).close
+    by-test true = cycles_closed i.machine i.budget (cycles_of i.words)
     by-test false = λ k. refl
 
 -- the definition itself keeps what `run` promises
-pub right-faithful : Faithful right
-right-faithful i = record {
+pub right_faithful : Faithful right
+right_faithful i = record {
   answer =
-      let s : Summary = summaryOf i.machine (courseFor i) in
-      ap (λ (e : Placed Finish). record { machine = s.machine; ending = e; accepted = s.accepted; completed = s.completed }) (run-closed i (length (courseFor i).steps));
+      let s : Summary = summary_of i.machine (course_for i) in
+      ap (λ (e : Placed Finish). record { machine = s.machine; ending = e; accepted = s.accepted; completed = s.completed }) (run_closed i (length (course_for i).steps));
   written = refl;
 }
 
 -- cycles with all pins low, from all zero, with budget and room for two
 abbrev on : List ℕ → RunInput
-on words = record { machine = zeroMachine; words = words; budget = 2; reports = replicate 8 0 }
+on words = record { machine = zero_machine; words = words; budget = 2; reports = replicate 8 0 }
 
 -- a no-operation; a word that is not on the list; an increment of ACC; the first and the third together; and a first immediate cycle
 abbrev nothing : RunInput
@@ -87,51 +87,51 @@ both = on (0x7140 ∷ 0 ∷ 0 ∷ 0xFC81 ∷ 0 ∷ 0 ∷ [])
 abbrev begun : RunInput
 begun = on (0xF8E1 ∷ 0 ∷ 0 ∷ [])
 
-abbrev toldOf : RunInput → Summary
-toldOf i = summaryOf i.machine (courseFor i)
+abbrev told_of : RunInput → Summary
+told_of i = summary_of i.machine (course_for i)
 
 -- what these runs come to, by computation
-nothing-done : (toldOf nothing).ending ≡ acceptedWhole done
-unfolding decodeOf takesImmediate workOf plan_of judgementOf mayStart view_of outcomeFor effect_of settled_of conditionOf cycleOf run_from run_of
-nothing-done = refl
+nothing_done : (told_of nothing).ending ≡ accepted_whole done
+unfolding decode_of takes_immediate work_of plan_of judgement_of may_start view_of outcome_for effect_of settled_of condition_of cycle_of run_from run_of
+nothing_done = refl
 
-nothing-accepted : (toldOf nothing).accepted ≡ 1
-unfolding decodeOf takesImmediate workOf plan_of judgementOf mayStart view_of outcomeFor effect_of settled_of conditionOf cycleOf run_from run_of
-nothing-accepted = refl
+nothing_accepted : (told_of nothing).accepted ≡ 1
+unfolding decode_of takes_immediate work_of plan_of judgement_of may_start view_of outcome_for effect_of settled_of condition_of cycle_of run_from run_of
+nothing_accepted = refl
 
-unlisted-accepted : (toldOf unlisted).accepted ≡ 0
-unfolding decodeOf takesImmediate workOf plan_of judgementOf mayStart view_of outcomeFor effect_of settled_of conditionOf cycleOf run_from run_of
-unlisted-accepted = refl
+unlisted_accepted : (told_of unlisted).accepted ≡ 0
+unfolding decode_of takes_immediate work_of plan_of judgement_of may_start view_of outcome_for effect_of settled_of condition_of cycle_of run_from run_of
+unlisted_accepted = refl
 
-begun-counts : ((toldOf begun).accepted ≡ 1) × ((toldOf begun).completed ≡ 0)
-unfolding decodeOf takesImmediate workOf plan_of judgementOf mayStart view_of outcomeFor effect_of settled_of conditionOf cycleOf run_from run_of
-begun-counts = (refl, refl)
+begun_counts : ((told_of begun).accepted ≡ 1) × ((told_of begun).completed ≡ 0)
+unfolding decode_of takes_immediate work_of plan_of judgement_of may_start view_of outcome_for effect_of settled_of condition_of cycle_of run_from run_of
+begun_counts = (refl, refl)
 
-increment-acc : (toldOf increment).machine.registers.acc ≡ 1
-unfolding complement writeBack flagged with_sign plus oneOperand outcomeOf decodeOf takesImmediate workOf plan_of judgementOf mayStart view_of outcomeFor effect_of settled_of conditionOf cycleOf run_from run_of
-increment-acc = refl
+increment_acc : (told_of increment).machine.registers.acc ≡ 1
+unfolding complement write_back flagged with_sign plus one_operand outcome_of decode_of takes_immediate work_of plan_of judgement_of may_start view_of outcome_for effect_of settled_of condition_of cycle_of run_from run_of
+increment_acc = refl
 
-both-accepted : (toldOf both).accepted ≡ 2
-unfolding complement writeBack flagged with_sign plus oneOperand outcomeOf decodeOf takesImmediate workOf plan_of judgementOf mayStart view_of outcomeFor effect_of settled_of conditionOf cycleOf run_from run_of
-both-accepted = refl
+both_accepted : (told_of both).accepted ≡ 2
+unfolding complement write_back flagged with_sign plus one_operand outcome_of decode_of takes_immediate work_of plan_of judgement_of may_start view_of outcome_for effect_of settled_of condition_of cycle_of run_from run_of
+both_accepted = refl
 
-both-reports : reportsOf (courseFor both).steps ≡ 0 ∷ 0 ∷ 0 ∷ 16 ∷ 1 ∷ 0xFFFF ∷ 0 ∷ 16 ∷ []
-unfolding complement writeBack flagged with_sign plus oneOperand outcomeOf decodeOf takesImmediate workOf plan_of judgementOf mayStart view_of outcomeFor effect_of settled_of conditionOf cycleOf run_from run_of
-both-reports = refl
+both_reports : reports_of (course_for both).steps ≡ 0 ∷ 0 ∷ 0 ∷ 16 ∷ 1 ∷ 0xFFFF ∷ 0 ∷ 16 ∷ []
+unfolding complement write_back flagged with_sign plus one_operand outcome_of decode_of takes_immediate work_of plan_of judgement_of may_start view_of outcome_for effect_of settled_of condition_of cycle_of run_from run_of
+both_reports = refl
 
 module _ (e : Emulator) (f : Faithful e) where
   -- a field of an answer is what the definition says
-  said : {A : Type 0} (field : Summary → A) (i : RunInput) → field (ranTells (e i).answer) ≡ field (toldOf i)
+  said : {A : Type 0} (field : Summary → A) (i : RunInput) → field (ran_tells (e i).answer) ≡ field (told_of i)
   said field i = ap field (f i).answer
 
   pub not-refusing-everything : RefusesEverything e → ⊥
-  not-refusing-everything w = (w nothing).0 (ending-one (e nothing).answer.ending Done (said (λ (s : Summary). s.ending) nothing ∙ nothing-done))
+  not-refusing-everything w = (w nothing).0 (ending_one (e nothing).answer.ending Done (said (λ (s : Summary). s.ending) nothing ∙ nothing_done))
 
   -- the accepted counts of two runs
   counts-differ : (e nothing).answer.accepted ≡ (e unlisted).answer.accepted → ⊥
   counts-differ q =
-      let one : (e nothing).answer.accepted ≡ 1 = said (λ (s : Summary). s.accepted) nothing ∙ nothing-accepted in
-      let zero : (e unlisted).answer.accepted ≡ 0 = said (λ (s : Summary). s.accepted) unlisted ∙ unlisted-accepted in
+      let one : (e nothing).answer.accepted ≡ 1 = said (λ (s : Summary). s.accepted) nothing ∙ nothing_accepted in
+      let zero : (e unlisted).answer.accepted ≡ 0 = said (λ (s : Summary). s.accepted) unlisted ∙ unlisted_accepted in
       omega (arith, q, one, zero)
 
   pub not-a-fixed-answer : FixedAnswer e → ⊥
@@ -139,15 +139,15 @@ module _ (e : Emulator) (f : Faithful e) where
 
   pub not-never-changing : NeverChanges e → ⊥
   not-never-changing w =
-      let one : (e increment).answer.machine.registers.acc ≡ 1 = ap (λ (m : Machine). m.registers.acc) (said (λ (s : Summary). s.machine) increment) ∙ increment-acc in
+      let one : (e increment).answer.machine.registers.acc ≡ 1 = ap (λ (m : Machine). m.registers.acc) (said (λ (s : Summary). s.machine) increment) ∙ increment_acc in
       let zero : (e increment).answer.machine.registers.acc ≡ 0 = ap (λ (m : Machine). m.registers.acc) (w increment) in
       omega (arith, one, zero)
 
   pub not-copying-the-first : CopiesFirst e → ⊥
   not-copying-the-first w =
       let after : (e both).after ≡ 0 ∷ 0 ∷ 0 ∷ 16 ∷ 1 ∷ 0xFFFF ∷ 0 ∷ 16 ∷ [] =
-      (f both).written ∙ ap (λ (l : List ℕ). l ++ drop (length l) both.reports) both-reports in
-      let two : (e both).answer.accepted ≡ 2 = said (λ (s : Summary). s.accepted) both ∙ both-accepted in
+      (f both).written ∙ ap (λ (l : List ℕ). l ++ drop (length l) both.reports) both_reports in
+      let two : (e both).answer.accepted ≡ 2 = said (λ (s : Summary). s.accepted) both ∙ both_accepted in
       let copied : take 4 (drop (4 * 1) (e both).after) ≡ take 4 (e both).after = w both 1 (omega (arith, two)) in
       let same : ◌≡◌ {A = List ℕ} (1 ∷ 0xFFFF ∷ 0 ∷ 16 ∷ []) (0 ∷ 0 ∷ 0 ∷ 16 ∷ []) = sym (ap (λ (l : List ℕ). take 4 (drop 4 l)) after) ∙ copied ∙ ap (take 4) after in
       first-differs same
@@ -166,6 +166,6 @@ module _ (e : Emulator) (f : Faithful e) where
 
   pub not-counting-every-cycle : CountsEveryCycle e → ⊥
   not-counting-every-cycle w =
-      let one : (e begun).answer.accepted ≡ 1 = said (λ (s : Summary). s.accepted) begun ∙ begun-counts.0 in
-      let none : (e begun).answer.completed ≡ 0 = said (λ (s : Summary). s.completed) begun ∙ begun-counts.1 in
+      let one : (e begun).answer.accepted ≡ 1 = said (λ (s : Summary). s.accepted) begun ∙ begun_counts.0 in
+      let none : (e begun).answer.completed ≡ 0 = said (λ (s : Summary). s.completed) begun ∙ begun_counts.1 in
       omega (arith, one, none, w begun)

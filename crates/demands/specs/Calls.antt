@@ -8,8 +8,8 @@ use Rattle.text.specs.Taking.{start_of, Takes}
 use Rattle.alu.specs.declared.Mode.{Mode}
 use Rattle.alu.specs.declared.Operation.{Operation}
 use Rattle.alu.specs.declared.Outcome.{Outcome}
-use Rattle.alu.specs.Width.{width_of, writeBack}
-use Rattle.alu.specs.Operations.{outcomeOf}
+use Rattle.alu.specs.Width.{width_of, write_back}
+use Rattle.alu.specs.Operations.{outcome_of}
 use Rattle.isa.specs.declared.Named.{Named}
 use Rattle.isa.specs.declared.Lookup.{Lookup}
 use Rattle.isa.specs.declared.Decoded.{Decoded}
@@ -17,11 +17,11 @@ use Rattle.isa.specs.declared.Encoded.{Encoded}
 use Rattle.isa.specs.declared.Family.{Family}
 use Rattle.isa.specs.declared.Row.{Row}
 use Rattle.isa.specs.Table.{row_at, number_of}
-use Rattle.isa.specs.Words.{decodedTells, decodeOf, lookupOf, encodedTells, encodeOf, takesImmediate}
+use Rattle.isa.specs.Words.{decoded_tells, decode_of, lookup_of, encoded_tells, encode_of, takes_immediate}
 use Rattle.plan.specs.declared.Plan.{Plan}
 use Rattle.plan.specs.declared.Work.{Work}
 use Rattle.plan.specs.Plans.{plan_of}
-use Rattle.plan.specs.Reading.{namesI}
+use Rattle.plan.specs.Reading.{names_i}
 use Rattle.machine.specs.declared.Waiting.{Waiting}
 use Rattle.machine.specs.declared.Registers.{Registers}
 use Rattle.machine.specs.declared.Machine.{Machine}
@@ -29,40 +29,40 @@ use Rattle.machine.specs.declared.Words.{Words}
 use Rattle.machine.specs.declared.Core.{Core}
 use Rattle.machine.specs.declared.Turn.{Turn}
 use Rattle.machine.specs.declared.Stepped.{Stepped}
-use Rattle.machine.specs.Judging.{mayStart}
-use Rattle.machine.specs.Cycles.{turnTells, cycleOf}
-use Rattle.machine.specs.Stepping.{core_of, machineFrom, Steps}
+use Rattle.machine.specs.Judging.{may_start}
+use Rattle.machine.specs.Cycles.{turn_tells, cycle_of}
+use Rattle.machine.specs.Stepping.{core_of, machine_from, Steps}
 use Rattle.run.specs.declared.Ending.{Ending}
 use Rattle.run.specs.declared.Ran.{Ran}
-use Rattle.run.specs.Runs.{startRefusal, run_of, zeroMachine, fullBudget, Gives}
+use Rattle.run.specs.Runs.{start_refusal, run_of, zero_machine, full_budget, Gives}
 use Rattle.trace.specs.declared.Filled.{Filled}
-use Rattle.trace.specs.Check.{checkOf}
-use Rattle.trace.specs.Layout.{wordsPerRecord}
-use Rattle.trace.specs.Limits.{keptLength}
+use Rattle.trace.specs.Check.{check_of}
+use Rattle.trace.specs.Layout.{words_per_record}
+use Rattle.trace.specs.Limits.{kept_length}
 use Rattle.trace.specs.Reading.{Reads}
 use Rattle.trace.specs.Writing.{Writes}
 use Rattle.lines.specs.declared.Line.{Line}
-use Rattle.lines.specs.Lines.{cycleLine, stateLine, registerLine, wordRefusedLine, lastLine}
+use Rattle.lines.specs.Lines.{cycle_line, state_line, register_line, word_refused_line, last_line}
 use Rattle.lines.specs.Answers.{Makes}
 use Rattle.lines.specs.Pages.{page_of}
-use Rattle.lines.specs.Words.{wordsLine, faultLine}
+use Rattle.lines.specs.Words.{words_line, fault_line}
 use Rattle.lines.specs.declared.Program.{Program}
 use Rattle.lines.specs.declared.Remark.{Remark}
-use Rattle.lines.specs.Remarks.{remarkLine}
+use Rattle.lines.specs.Remarks.{remark_line}
 use Rattle.pages.specs.declared.Written.{Written}
 use Rattle.pages.specs.declared.PieceTaken.{PieceTaken}
 use Rattle.pages.specs.Writing.{Writes as WritesBoth}
-use Rattle.pages.specs.Running.{pageText, pageSaid}
-use Rattle.pages.specs.Unpacking.{unpackedText, unpackedSaid}
+use Rattle.pages.specs.Running.{page_text, page_said}
+use Rattle.pages.specs.Unpacking.{unpacked_text, unpacked_said}
 use Rattle.pages.specs.Packing.{TakesPiece, EndsText}
 use Rattle.listing.specs.declared.Printed.{Printed}
 use Rattle.listing.specs.declared.Read.{Read}
 use Rattle.listing.specs.Lines.{word_of}
 use Rattle.listing.specs.Data.{data_of}
-use Rattle.listing.specs.Answers.{printedTells, readTells, outcome, printInto, dataInto}
+use Rattle.listing.specs.Answers.{printed_tells, read_tells, outcome, print_into, data_into}
 use Rattle.listpages.specs.declared.Reading.{Reading}
 use Rattle.listpages.specs.declared.LinesRead.{LinesRead}
-use Rattle.listpages.specs.Listing.{listedText, listedSaid}
+use Rattle.listpages.specs.Listing.{listed_text, listed_said}
 use Rattle.listpages.specs.Answering.{ReadsLines}
 
 -- an answer, and lent output after the call
@@ -84,23 +84,23 @@ TakesText i o = Takes i.0 i.1 o.answer i.2 o.after
 
 -- alu
 abbrev pub Performs : Mode × Operation × ℕ → Outcome → Type 0
-Performs i o = o ≡ outcomeOf (width_of i.0) i.1 i.2
+Performs i o = o ≡ outcome_of (width_of i.0) i.1 i.2
 
 abbrev pub WritesBack : Mode × ℕ × ℕ → ℕ → Type 0
-WritesBack i r = r ≡ writeBack (width_of i.0) i.1 i.2
+WritesBack i r = r ≡ write_back (width_of i.0) i.1 i.2
 
 -- isa
 abbrev pub Decodes : ℕ → Decoded → Type 0
-Decodes w r = decodedTells r ≡ decodeOf w
+Decodes w r = decoded_tells r ≡ decode_of w
 
 abbrev pub LooksUp : ℕ → Lookup → Type 0
-LooksUp w r = r ≡ lookupOf w
+LooksUp w r = r ≡ lookup_of w
 
 abbrev pub Encodes : Named → Encoded → Type 0
-Encodes n r = encodedTells r ≡ encodeOf n
+Encodes n r = encoded_tells r ≡ encode_of n
 
 abbrev pub TakesImmediate : ℕ → Bool → Type 0
-TakesImmediate w r = r ≡ takesImmediate w
+TakesImmediate w r = r ≡ takes_immediate w
 
 abbrev pub NumbersFamily : Family → ℕ → Type 0
 NumbersFamily f r = r ≡ number_of f
@@ -113,11 +113,11 @@ abbrev pub Plans : Named → Plan → Type 0
 Plans n r = r ≡ plan_of n
 
 abbrev pub NamesImmediate : Work → Bool → Type 0
-NamesImmediate w r = r ≡ namesI w
+NamesImmediate w r = r ≡ names_i w
 
 -- machine
 abbrev pub Cycles : Machine × Words → Turn → Type 0
-Cycles i r = turnTells r ≡ cycleOf i.0 i.1
+Cycles i r = turn_tells r ≡ cycle_of i.0 i.1
 
 -- RAM before the step, the other registers and the words; RAM after it is the lent output
 abbrev pub StepsMachine : List ℕ × Core × Words → Filling Stepped → Type 0
@@ -127,10 +127,10 @@ abbrev pub TakesApart : Registers → Core → Type 0
 TakesApart r k = k ≡ core_of r
 
 abbrev pub PutsTogether : List ℕ × Core → Machine → Type 0
-PutsTogether i m = m ≡ machineFrom i.0 i.1
+PutsTogether i m = m ≡ machine_from i.0 i.1
 
 abbrev pub MayStart : Waiting → Bool → Type 0
-MayStart w r = r ≡ mayStart w
+MayStart w r = r ≡ may_start w
 
 -- run: the machine, the words, the budget, and the lent reports before the call
 pub record RunInput : Type 0 where
@@ -140,18 +140,18 @@ pub record RunInput : Type 0 where
   pub reports : List ℕ
 
 -- what the checks of the whole run give
-abbrev pub wholeNumber : RunInput → ℕ
-wholeNumber i = startRefusal i.machine i.words (length i.reports)
+abbrev pub whole_number : RunInput → ℕ
+whole_number i = start_refusal i.machine i.words (length i.reports)
 
 abbrev pub Runs : RunInput → Filling Ran → Type 0
 Runs i o = Gives i.machine (run_of i.machine i.words i.budget (length i.reports)) o.answer i.reports o.after
 
 abbrev pub RunsFromZero : List ℕ × List ℕ → Filling Ran → Type 0
-RunsFromZero i o = Runs (record { machine = zeroMachine; words = i.0; budget = fullBudget; reports = i.1 }) o
+RunsFromZero i o = Runs (record { machine = zero_machine; words = i.0; budget = full_budget; reports = i.1 }) o
 
 -- trace: a trace or cycle words, and the lent output before the call
 abbrev pub Checks : List ℕ → ℕ → Type 0
-Checks bytes r = r ≡ checkOf bytes
+Checks bytes r = r ≡ check_of bytes
 
 abbrev pub ReadsTrace : List ℕ × List ℕ → Filling Filled → Type 0
 ReadsTrace i o = Reads i.0 o.answer i.1 o.after
@@ -160,7 +160,7 @@ abbrev pub WritesTrace : List ℕ × List ℕ → Filling Filled → Type 0
 WritesTrace i o = Writes i.0 o.answer i.1 o.after
 
 abbrev pub Keeps : ℕ → ℕ → Type 0
-Keeps n r = r ≡ keptLength wordsPerRecord n
+Keeps n r = r ≡ kept_length words_per_record n
 
 -- lines: the text, and the lent slice before the call
 abbrev pub MakesLine : List ℕ × List ℕ → Filling Line → Type 0
@@ -174,31 +174,31 @@ pub record CycleShown : Type 0 where
   pub t : ℕ
 
 abbrev pub CycleLines : CycleShown × List ℕ → Filling Line → Type 0
-CycleLines i o = MakesLine (cycleLine i.0.number i.0.y i.0.mask i.0.ct i.0.t, i.1) o
+CycleLines i o = MakesLine (cycle_line i.0.number i.0.y i.0.mask i.0.ct i.0.t, i.1) o
 
 abbrev pub StateLines : Registers × List ℕ → Filling Line → Type 0
-StateLines i o = MakesLine (stateLine i.0, i.1) o
+StateLines i o = MakesLine (state_line i.0, i.1) o
 
 abbrev pub RegisterLines : ℕ × ℕ × List ℕ → Filling Line → Type 0
-RegisterLines i o = MakesLine (registerLine i.0 i.1, i.2) o
+RegisterLines i o = MakesLine (register_line i.0 i.1, i.2) o
 
 abbrev pub LastLines : Ending × ℕ × List ℕ → Filling Line → Type 0
-LastLines i o = MakesLine (lastLine i.0 i.1, i.2) o
+LastLines i o = MakesLine (last_line i.0 i.1, i.2) o
 
 abbrev pub WordRefusedLines : ℕ × List ℕ → Filling Line → Type 0
-WordRefusedLines i o = MakesLine (wordRefusedLine i.0, i.1) o
+WordRefusedLines i o = MakesLine (word_refused_line i.0, i.1) o
 
 abbrev pub PageLines : Ran × List ℕ × ℕ × List ℕ → Filling Line → Type 0
 PageLines i o = MakesLine (get_or (page_of i.0 i.1) i.2 [], i.3) o
 
 abbrev pub WordsLines : List ℕ × ℕ × List ℕ → Filling Line → Type 0
-WordsLines i o = MakesLine (wordsLine i.0 i.1, i.2) o
+WordsLines i o = MakesLine (words_line i.0 i.1, i.2) o
 
 abbrev pub FaultLines : Fault × List ℕ → Filling Line → Type 0
-FaultLines i o = MakesLine (faultLine i.0, i.1) o
+FaultLines i o = MakesLine (fault_line i.0, i.1) o
 
 abbrev pub RemarkLines : Program × Remark × List ℕ → Filling Line → Type 0
-RemarkLines i o = MakesLine (remarkLine i.0 i.1, i.2) o
+RemarkLines i o = MakesLine (remark_line i.0 i.1, i.2) o
 
 -- pages: an answer, and both lent slices after the call: for standard output and for standard error
 pub record FillingBoth (Answer : Type 0) : Type 0 where
@@ -208,10 +208,10 @@ pub record FillingBoth (Answer : Type 0) : Type 0 where
 
 -- a trace, and both lent slices before the call
 abbrev pub ShowsRun : List ℕ × List ℕ × List ℕ → FillingBoth Written → Type 0
-ShowsRun i o = WritesBoth (pageText i.0) (pageSaid i.0) o.answer i.1 i.2 o.out o.errors
+ShowsRun i o = WritesBoth (page_text i.0) (page_said i.0) o.answer i.1 i.2 o.out o.errors
 
 abbrev pub ShowsWords : List ℕ × List ℕ × List ℕ → FillingBoth Written → Type 0
-ShowsWords i o = WritesBoth (unpackedText i.0) (unpackedSaid i.0) o.answer i.1 i.2 o.out o.errors
+ShowsWords i o = WritesBoth (unpacked_text i.0) (unpacked_said i.0) o.answer i.1 i.2 o.out o.errors
 
 -- a reader and a piece of a text, and the lent words and slice before the call; the words after it are the first of the two
 abbrev pub TakesPieces : Reader × List ℕ × List ℕ × List ℕ → FillingBoth PieceTaken → Type 0
@@ -223,20 +223,20 @@ EndsTexts i o = EndsText i.0 o.answer.answer i.1 i.2 i.3 o.answer.after o.out o.
 
 -- listing: a word or data, and the lent bytes before the call; a line
 abbrev pub PrintsWord : ℕ × List ℕ → Filling Printed → Type 0
-PrintsWord i o = outcome (printedTells o.answer) o.after ≡ printInto i.0 i.1
+PrintsWord i o = outcome (printed_tells o.answer) o.after ≡ print_into i.0 i.1
 
 abbrev pub ReadsWord : List ℕ → Read → Type 0
-ReadsWord line r = readTells r ≡ word_of line
+ReadsWord line r = read_tells r ≡ word_of line
 
 abbrev pub PrintsData : ℕ × List ℕ → Filling Printed → Type 0
-PrintsData i o = outcome (printedTells o.answer) o.after ≡ dataInto i.0 i.1
+PrintsData i o = outcome (printed_tells o.answer) o.after ≡ data_into i.0 i.1
 
 abbrev pub ReadsData : List ℕ → Read → Type 0
-ReadsData line r = readTells r ≡ data_of line
+ReadsData line r = read_tells r ≡ data_of line
 
 -- listpages: a trace, and both lent slices before the call; a reader and bytes, and the lent slice before the call
 abbrev pub ShowsList : List ℕ × List ℕ × List ℕ → FillingBoth Written → Type 0
-ShowsList i o = WritesBoth (listedText i.0) (listedSaid i.0) o.answer i.1 i.2 o.out o.errors
+ShowsList i o = WritesBoth (listed_text i.0) (listed_said i.0) o.answer i.1 i.2 o.out o.errors
 
 abbrev pub AnswersLines : Reading × List ℕ × List ℕ → Filling LinesRead → Type 0
 AnswersLines i o = ReadsLines i.0 i.1 o.answer i.2 o.after

@@ -7,10 +7,10 @@ use Rattle.alu.specs.Width.{bit}
 use Rattle.isa.specs.declared.Family.{Family}
 use Rattle.isa.specs.declared.Family.TheVariants.{Rotr1, Rotm, Rotc, Prt3, Tor1, Sor, Crcf, Crcr, Shftr, Noop}
 use Rattle.isa.specs.declared.Named.{Named}
-use Rattle.isa.specs.Words.{decodeOf}
+use Rattle.isa.specs.Words.{decode_of}
 use Rattle.machine.specs.declared.Waiting.TheVariants.{Nothing}
 use Rattle.machine.specs.declared.Machine.{Machine}
-use Rattle.machine.specs.Cycles.{Turned, cycleOf}
+use Rattle.machine.specs.Cycles.{Turned, cycle_of}
 
 -- the register that every row names is R1
 pub record Values : Type 0 where
@@ -62,11 +62,11 @@ abbrev pub start_of : Values → Machine
 start_of v = record { registers = record { ram = 0 ∷ v.register ∷ replicate 30 0; acc = v.acc; latch = v.latch; status = v.status; waiting = Nothing } }
 
 -- one cycle with the word on the lines, and all pins low
-abbrev pub turnOn : Row → Turned
-turnOn r = cycleOf (start_of r.before) (record { lines = r.word; input = 0; pins = 0 })
+abbrev pub turn_on : Row → Turned
+turn_on r = cycle_of (start_of r.before) (record { lines = r.word; input = 0; pins = 0 })
 
-abbrev pub familyTold : Tells Named → Tells Family
-familyTold t = record { number = t.number; value = elim t.value [ some m ↦ some m.family | none ↦ none ] }
+abbrev pub family_told : Tells Named → Tells Family
+family_told t = record { number = t.number; value = elim t.value [ some m ↦ some m.family | none ↦ none ] }
 
 abbrev pub FlagsAre : ℕ → List Flag → Type 0
 FlagsAre status [] = Unit {0}
@@ -74,11 +74,11 @@ FlagsAre status (f ∷ flags) = (bit f.place status ≡ f.value) × FlagsAre sta
 
 -- what a row says: the word decodes to the family, or gets the number; and so does the cycle, which leaves the values
 pub record Holds (r : Row) : Type 0 where
-  pub decoded : familyTold (decodeOf r.word) ≡ r.family
-  pub answered : (turnOn r).answer.number ≡ r.family.number
-  pub register : get_or (turnOn r).machine.registers.ram 1 0 ≡ r.register
-  pub acc : (turnOn r).machine.registers.acc ≡ r.acc
-  pub flags : FlagsAre (turnOn r).machine.registers.status r.flags
+  pub decoded : family_told (decode_of r.word) ≡ r.family
+  pub answered : (turn_on r).answer.number ≡ r.family.number
+  pub register : get_or (turn_on r).machine.registers.ram 1 0 ≡ r.register
+  pub acc : (turn_on r).machine.registers.acc ≡ r.acc
+  pub flags : FlagsAre (turn_on r).machine.registers.status r.flags
 
 abbrev pub AllHold : List Row → Type 0
 AllHold [] = Unit {0}

@@ -8,12 +8,12 @@ use Rattle.machine.specs.declared.Waiting.TheVariants.{Nothing, Held}
 use Rattle.machine.specs.declared.Registers.{Registers}
 use Rattle.machine.specs.declared.Machine.{Machine}
 use Rattle.machine.specs.declared.Words.{Words}
-use Rattle.machine.specs.Judging.{wordAbout}
+use Rattle.machine.specs.Judging.{word_about}
 use Rattle.machine.specs.Settling.{UpperBytesKept}
 use Rattle.run.specs.declared.Ran.{Ran}
-use Rattle.run.specs.Splitting.{cycleAt, cyclesIn, wordsPerReport}
-use Rattle.run.specs.Courses.{Course, machineAfter}
-use Rattle.run.specs.Runs.{startRefusal, run_of}
+use Rattle.run.specs.Splitting.{cycle_at, cycles_in, words_per_report}
+use Rattle.run.specs.Courses.{Course, machine_after}
+use Rattle.run.specs.Runs.{start_refusal, run_of}
 
 abbrev pub low_byte : ℕ → ℕ
 low_byte x = low (width_of Byte) x
@@ -41,13 +41,13 @@ pub record CyclesAlike (waiting : Waiting) (c d : Words) : Type 0 where
   pub pins : c.pins ≡ d.pins
 
 -- the word that waits when cycle i begins; past the run's end, the one that waits there
-abbrev pub waitingBefore : Machine → Course → ℕ → Waiting
-waitingBefore m c i = (machineAfter m (take i c.steps)).registers.waiting
+abbrev pub waiting_before : Machine → Course → ℕ → Waiting
+waiting_before m c i = (machine_after m (take i c.steps)).registers.waiting
 
 -- a run reaches cycle i: it is judged, and accepted or refused
 pub record Reached (m : Machine) (words : List ℕ) (budget room i : ℕ) : Type 0 where
-  pub started : startRefusal m words room ≡ 0
-  pub given : i < cyclesIn (length words)
+  pub started : start_refusal m words room ≡ 0
+  pub given : i < cycles_in (length words)
   pub paid : i < budget
   pub next : i ≤ length (run_of m words budget room).steps
 
@@ -61,22 +61,22 @@ module _ (m n : Machine) (v w : List ℕ) (budget room : ℕ) where
   pub record Premises : Type 0 where
     pub number : length v ≡ length w
     pub starts : SameLowBytes m.registers n.registers
-    pub cycles : (i : ℕ) → Reached m v budget room i → CyclesAlike (waitingBefore m first i) (cycleAt v i) (cycleAt w i)
-    pub marks : (i : ℕ) → i < length first.steps → ByteMark (wordAbout (waitingBefore m first i) (cycleAt v i).lines)
+    pub cycles : (i : ℕ) → Reached m v budget room i → CyclesAlike (waiting_before m first i) (cycle_at v i) (cycle_at w i)
+    pub marks : (i : ℕ) → i < length first.steps → ByteMark (word_about (waiting_before m first i) (cycle_at v i).lines)
 
   -- a stricter reading: all cycles differ only so, those not reached too, where the word that waits at the run's end says what is immediate
   -- data; and the byte mark is asked of the refused word as well, and of a word that waits at the start even where no cycle is reached
   pub record StricterPremises : Type 0 where
     pub number : length v ≡ length w
     pub starts : SameLowBytes m.registers n.registers
-    pub cycles : (i : ℕ) → i < cyclesIn (length v) → CyclesAlike (waitingBefore m first i) (cycleAt v i) (cycleAt w i)
-    pub marks : (i : ℕ) → Reached m v budget room i → ByteMark (wordAbout (waitingBefore m first i) (cycleAt v i).lines)
+    pub cycles : (i : ℕ) → i < cycles_in (length v) → CyclesAlike (waiting_before m first i) (cycle_at v i) (cycle_at w i)
+    pub marks : (i : ℕ) → Reached m v budget room i → ByteMark (word_about (waiting_before m first i) (cycle_at v i).lines)
     pub waiting : (word : ℕ) → m.registers.waiting ≡ Held word → ByteMark word
 
 -- what is said of the answers of two runs, and of the lent reports after the calls: the same reports, as far as they are filled, the same ending
 -- with number and index, and the same counts; the same status, waiting word and low bytes; and in each run the upper bytes that it started with
 pub record Isolated (m n : Machine) (r s : Ran) (reports reports' : List ℕ) : Type 0 where
-  pub filled : take (wordsPerReport * r.accepted) reports ≡ take (wordsPerReport * s.accepted) reports'
+  pub filled : take (words_per_report * r.accepted) reports ≡ take (words_per_report * s.accepted) reports'
   pub ending : r.ending ≡ s.ending
   pub accepted : r.accepted ≡ s.accepted
   pub completed : r.completed ≡ s.completed

@@ -2,9 +2,9 @@
 use Rattle.std.specs.Prelude.{◌≡◌, ◌++◌, ℕ, ◌*◌, ◌<◌, length, take, drop}
 use Rattle.run.specs.declared.Ending.TheVariants.{Done, Stopped}
 use Rattle.run.specs.declared.Ran.{Ran}
-use Rattle.run.specs.Splitting.{wordsPerReport}
-use Rattle.run.specs.Courses.{Course, reportsOf}
-use Rattle.run.specs.Runs.{run_of, summaryOf, ranOf}
+use Rattle.run.specs.Splitting.{words_per_report}
+use Rattle.run.specs.Courses.{Course, reports_of}
+use Rattle.run.specs.Runs.{run_of, summary_of, ran_of}
 use Rattle.demands.specs.Calls.{Filling, RunInput, Runs}
 
 -- what is made of a run, whatever it is
@@ -29,7 +29,7 @@ NeverChanges e = (i : RunInput) → (e i).answer.machine ≡ i.machine
 
 -- every report is that of cycle 0
 abbrev pub CopiesFirst : Emulator → Type 0
-CopiesFirst e = (i : RunInput) (k : ℕ) → k < (e i).answer.accepted → take wordsPerReport (drop (wordsPerReport * k) (e i).after) ≡ take wordsPerReport (e i).after
+CopiesFirst e = (i : RunInput) (k : ℕ) → k < (e i).answer.accepted → take words_per_report (drop (words_per_report * k) (e i).after) ≡ take words_per_report (e i).after
 
 -- the counts go by how many words there are, and not by what they say
 abbrev pub InventsCounts : Emulator → Type 0
@@ -40,11 +40,11 @@ abbrev pub CountsEveryCycle : Emulator → Type 0
 CountsEveryCycle e = (i : RunInput) → (e i).answer.completed ≡ (e i).answer.accepted
 
 -- the right one is the definition itself, put into an answer and lent reports
-abbrev pub courseFor : RunInput → Course
-courseFor i = run_of i.machine i.words i.budget (length i.reports)
+abbrev pub course_for : RunInput → Course
+course_for i = run_of i.machine i.words i.budget (length i.reports)
 
 abbrev pub right : Emulator
 right i = record {
-  answer = ranOf (summaryOf i.machine (courseFor i));
-  after = reportsOf (courseFor i).steps ++ drop (length (reportsOf (courseFor i).steps)) i.reports;
+  answer = ran_of (summary_of i.machine (course_for i));
+  after = reports_of (course_for i).steps ++ drop (length (reports_of (course_for i).steps)) i.reports;
 }

@@ -1,6 +1,8 @@
 // Runs the programs for traces and listings over the files that its arguments name. They come in threes: a program, how its output goes ("written", or
 // "blocked" where it cannot be written), and a file. Each case has a line with the three, and then what the program writes and says, both on
 // standard output.
+#![tactic(auto)]
+
 ghost use Rattle.std.specs.Prelude.{◌<◌};
 
 use files::Files;

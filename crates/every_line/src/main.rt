@@ -1,5 +1,7 @@
 // Prints the line of every 16-bit word, reads it back as it is, with more blanks and in the other mode, and prints how many answers of
 // each kind there were; then the same for all data, and what some single lines give.
+#![tactic(auto)]
+
 ghost use Rattle.std.specs.Prelude.{◌≡◌, ◌≤◌, length};
 
 use libc::STDOUT_FILENO;
@@ -14,7 +16,7 @@ const MODE: u16 = 0x8000;
 // The bit that field A has for the name PRZ, 10, and has not for PRA, 8.
 const ZERO_NOT_ACC: u16 = 0x0400;
 
-#[derive(Drop)]
+#[derive(Clone, Copy)]
 struct Tally {
     printed: u32,
     word_seven: u32,

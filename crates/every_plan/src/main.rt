@@ -1,5 +1,7 @@
 // Plans every accepted word and prints how many plans there are for each operation, each source in each place, each destination, each
 // kind of showing and each chooser; how many name I; and how many write RAM and do not name I.
+#![tactic(auto)]
+
 ghost use Rattle.std.specs.Prelude.{◌<◌, ◌≤◌};
 
 use alu::{BitKind, OneOperandKind, ShiftKind, TwoOperandKind};
@@ -8,7 +10,7 @@ use libc::STDOUT_FILENO;
 use plan::{Chooser, Destination, Operands, Plan, Shown, Source, Task, Work};
 
 // Counts by place: 42 operations, 7 sources for each of three operands, 5 destinations, 3 ways to show, 2 choosers, and the two sums.
-#[derive(Drop)]
+#[derive(Clone, Copy)]
 struct Tally {
     counts: [u32; 75],
 }

@@ -1,11 +1,13 @@
 // Decodes every 16-bit word and prints what the answers were: how many words are accepted, refused with each number, have an
 // I operand, belong to each family, and come back as the same word when their instruction is encoded.
+#![tactic(auto)]
+
 ghost use Rattle.std.specs.Prelude.{◌<◌};
 
 use isa::{Decoded, Encoded, Family, Named};
 use libc::STDOUT_FILENO;
 
-#[derive(Drop)]
+#[derive(Clone, Copy)]
 struct Tally {
     accepted: u32,
     seven: u32,

@@ -1,6 +1,8 @@
 // Holds the examples to what is expected of them. Its arguments come in threes: what is expected, a text, and a file of it: "page" of the
 // run of its trace, or "words" of its cycles. Where a text has bad lines, what they lack is expected instead. A text is packed, and its trace
 // run or unpacked, by the calls that the programs make.
+#![tactic(auto)]
+
 ghost use Rattle.std.specs.Prelude.{◌<◌, ◌≤◌, length};
 ghost use Rattle.io.specs.Counts.{IsPrefixLen};
 
@@ -70,7 +72,7 @@ fn after_words(trace: &[u8], expected: &[u8], at: usize) -> usize {
 }
 
 // The reader after some lines, the place after what is said of them, and whether one is bad.
-#[derive(Drop)]
+#[derive(Clone, Copy)]
 struct Said {
     reader: Reader,
     at: usize,

@@ -1,5 +1,7 @@
 // How the programs read and write, over any files: input, and whether it could be read; output, and what is said where that fails; and how each
 // program is used. What a program makes of its input is not known here.
+#![tactic(auto)]
+
 mod reading; // reading.rt: input, and whether it could be read
 mod writing; // writing.rt: output, what is said where it fails, and the lines of usage
 
@@ -8,7 +10,7 @@ pub use reading::{CHUNK, fill, read_trace};
 pub use writing::{print_usage, say, write_both, write_made};
 
 // The descriptors that a program reads and writes.
-#[derive(Drop)]
+#[derive(Clone, Copy)]
 pub struct Files {
     pub input: i32,
     pub output: i32,
@@ -16,7 +18,7 @@ pub struct Files {
 }
 
 // What came of reading: how many bytes, and whether a read failed.
-#[derive(Drop)]
+#[derive(Clone, Copy)]
 pub struct Input {
     pub bytes: usize,
     pub failed: bool,

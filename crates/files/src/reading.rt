@@ -1,7 +1,7 @@
 // Input, and whether it could be read.
 ghost use Rattle.std.specs.Prelude.{◌+◌, ◌≤◌, ◌<◌, length};
-ghost use Rattle.trace.specs.Layout.{wordsPerRecord, blockBytes};
-ghost use Rattle.trace.specs.Limits.{tooLong};
+ghost use Rattle.trace.specs.Layout.{words_per_record, block_bytes};
+ghost use Rattle.trace.specs.Limits.{too_long};
 
 use crate::Input;
 
@@ -56,8 +56,8 @@ pub fn fill(file: i32, bytes: &mut [u8]) -> Input
 
 // How much of a trace is kept, with the rest of it counted: `first` bytes are read already.
 fn count_rest(file: i32, first: usize) -> Input
-    requires { first ≤ tooLong wordsPerRecord + blockBytes }
-    ensures { result.bytes < tooLong wordsPerRecord + blockBytes }
+    requires { first ≤ too_long words_per_record + block_bytes }
+    ensures { result.bytes < too_long words_per_record + block_bytes }
 {
     let mut kept = trace::kept(first);
     // more chunks than there is time for

@@ -8,7 +8,7 @@ use lib.Dec.{T, eqb}
 use borrow.Author.Tests.{le-ltb}
 use Rattle.choice.specs.Pick.{pick}
 use Rattle.choice.specs.Along.{Along, same}
-use Rattle.choice.proofs.Decisions.{Inside, Agree, box, along, along-test}
+use Rattle.choice.proofs.Decisions.{Inside, Agree, box, along, along_test}
 use Rattle.isa.specs.Sets.{has}
 use Rattle.isa.specs.Table.{no_row}
 use Rattle.isa.specs.Slots.{with_c}
@@ -21,9 +21,9 @@ slots q m a b = slot_of m q a b
 -- an arm over mn marks from mlo on, an values of A from alo on and bn values of B from blo on
 module _ (q mlo mn alo an blo bn : ℕ) where
   -- one row
-  pub one-row : (row : ℕ) → T (Agree (λ m a b. row) (slots q) mlo mn alo an blo bn)
+  pub one_row : (row : ℕ) → T (Agree (λ m a b. row) (slots q) mlo mn alo an blo bn)
       → (m a b : ℕ) → Inside mlo mn alo an blo bn m a b → row ≡ slot_of m q a b
-  one-row row t m a b h = box (λ m a b. row) (slots q) mlo mn alo an blo bn t m a b h
+  one_row row t m a b h = box (λ m a b. row) (slots q) mlo mn alo an blo bn t m a b h
 
   -- what a decision over B found of mark m₀ and A a₀
   pub by-b : (m₀ a₀ : ℕ) → T (Agree (λ m a b. slot_of m₀ q a₀ b) (slots q) mlo mn alo an blo bn)
@@ -38,32 +38,32 @@ module _ (q mlo mn alo an blo bn : ℕ) where
       along n (λ k. slot_of m₀ q k b₀) a r told k ∙ box (λ m a b. slot_of m₀ q a b₀) (slots q) mlo mn alo an blo bn t m a b h
 
 -- the rows of a slot, over the slot and field C; nothing is asked of the third number
-abbrev pub slotsByC : ℕ → ℕ → ℕ → ℕ
-slotsByC x s c = with_c (sharing s) c
+abbrev pub slots_by_c : ℕ → ℕ → ℕ → ℕ
+slots_by_c x s c = with_c (sharing s) c
 
 -- an arm over sn slots from slo on
 module _ (slo sn : ℕ) where
   -- every value of C
-  pub every-c : T (Agree (λ x s c. s) slotsByC 0 1 slo sn 0 32) → (s c : ℕ) → (slo ≤ s) × (s < slo + sn) × (c < 32) → s ≡ with_c (sharing s) c
-  every-c t s c h = box (λ x s c. s) slotsByC 0 1 slo sn 0 32 t 0 s c (omega arith)
+  pub every-c : T (Agree (λ x s c. s) slots_by_c 0 1 slo sn 0 32) → (s c : ℕ) → (slo ≤ s) × (s < slo + sn) × (c < 32) → s ≡ with_c (sharing s) c
+  every-c t s c h = box (λ x s c. s) slots_by_c 0 1 slo sn 0 32 t 0 s c (omega arith)
 
   -- the values of a list
-  pub listed-c : (set : ℕ) → T (Agree (λ x s c. pick (has set c) s no_row) slotsByC 0 1 slo sn 0 32)
+  pub listed-c : (set : ℕ) → T (Agree (λ x s c. pick (has set c) s no_row) slots_by_c 0 1 slo sn 0 32)
       → (s c r : ℕ) (ok : Bool) → (slo ≤ s) × (s < slo + sn) × (c < 32) → Along same 32 (has set) c ok → r ≡ pick ok s no_row → r ≡ with_c (sharing s) c
   listed-c set t s c r ok h told e =
-      e ∙ ap (λ (b : Bool). pick b s no_row) (along-test 32 (has set) c ok told h.2)
-      ∙ box (λ x s c. pick (has set c) s no_row) slotsByC 0 1 slo sn 0 32 t 0 s c (omega arith)
+      e ∙ ap (λ (b : Bool). pick b s no_row) (along_test 32 (has set) c ok told h.2)
+      ∙ box (λ x s c. pick (has set c) s no_row) slots_by_c 0 1 slo sn 0 32 t 0 s c (omega arith)
 
   -- what the decision over C found in the slot s₀
-  pub shared-c : (s₀ : ℕ) → T (Agree (λ x s c. with_c (sharing s₀) c) slotsByC 0 1 slo sn 0 32)
+  pub shared-c : (s₀ : ℕ) → T (Agree (λ x s c. with_c (sharing s₀) c) slots_by_c 0 1 slo sn 0 32)
       → (s c r : ℕ) → (slo ≤ s) × (s < slo + sn) × (c < 32) → Along eqb 32 (λ k. with_c (sharing s₀) k) c r → r ≡ with_c (sharing s) c
   shared-c s₀ t s c r h told =
       along 32 (λ k. with_c (sharing s₀) k) c r told h.2
-      ∙ box (λ x s c. with_c (sharing s₀) c) slotsByC 0 1 slo sn 0 32 t 0 s c (omega arith)
+      ∙ box (λ x s c. with_c (sharing s₀) c) slots_by_c 0 1 slo sn 0 32 t 0 s c (omega arith)
 
 -- past the last row there is none
-pub none-c : (s c : ℕ) → no_row ≤ s → no_row ≡ with_c (sharing s) c
-none-c s c h = rw (le-ltb s no_row h)
+pub none_c : (s c : ℕ) → no_row ≤ s → no_row ≡ with_c (sharing s) c
+none_c s c h = rw (le-ltb s no_row h)
 
-pub at-quadrant : (k q m a b r : ℕ) → q ≡ k → r ≡ slot_of m k a b → r ≡ slot_of m q a b
-at-quadrant k q m a b r e h = rw e h
+pub at_quadrant : (k q m a b r : ℕ) → q ≡ k → r ≡ slot_of m k a b → r ≡ slot_of m q a b
+at_quadrant k q m a b r e h = rw e h

@@ -51,24 +51,24 @@ differ s t k hs ht = by-test (eqb (bit_and s t) 0) refl
     by-test false q = refl
 
 -- two rows that take the same fields share a value in every set
-sharing-all : (r s : Row) (mark a b c : ℕ) → r.quadrant ≡ s.quadrant → Taken r mark a b c → Taken s mark a b c → shared r s ≡ true
+sharing_all : (r s : Row) (mark a b c : ℕ) → r.quadrant ≡ s.quadrant → Taken r mark a b c → Taken s mark a b c → shared r s ≡ true
 unfolding shared
-sharing-all r s mark a b c e t u =
+sharing_all r s mark a b c e t u =
     rw (
       eq-eqb r.quadrant s.quadrant e,
-      differ r.a s.a a t.in-a u.in-a,
+      differ r.a s.a a t.in_a u.in_a,
       differ r.b s.b b t.in_b u.in_b,
       differ r.c s.c c t.in_c u.in_c,
       differ r.modes s.modes mark t.mode u.mode,
     )
 
 -- at most one row takes a word's fields
-pub one-row : (i j mark a b c : ℕ) → i < no_row → j < no_row → (row_at i).quadrant ≡ (row_at j).quadrant
+pub one_row : (i j mark a b c : ℕ) → i < no_row → j < no_row → (row_at i).quadrant ≡ (row_at j).quadrant
     → takes (row_at i) mark a b c ≡ true → takes (row_at j) mark a b c ≡ true → i ≡ j
 unfolding apart
-one-row i j mark a b c hi hj e t u = by-test (eqb i j) refl (below (λ j. apart i j) no_row j (below (λ i. span 0 no_row (λ j. apart i j)) no_row i all_apart hi) hj)
+one_row i j mark a b c hi hj e t u = by-test (eqb i j) refl (below (λ j. apart i j) no_row j (below (λ i. span 0 no_row (λ j. apart i j)) no_row i all_apart hi) hj)
   where
     by-test : (x : Bool) → eqb i j ≡ x → T (elim x [ true ↦ true | false ↦ not (shared (row_at i) (row_at j)) ]) → i ≡ j
     by-test true q h = eqb-true i j q
     by-test false q h =
-        absurd (never (sym (ap not (sharing-all (row_at i) (row_at j) mark a b c e (taken (row_at i) mark a b c t) (taken (row_at j) mark a b c u))) ∙ holds (not (shared (row_at i) (row_at j))) h))
+        absurd (never (sym (ap not (sharing_all (row_at i) (row_at j) mark a b c e (taken (row_at i) mark a b c t) (taken (row_at j) mark a b c u))) ∙ holds (not (shared (row_at i) (row_at j))) h))

@@ -6,11 +6,11 @@ use lib.Dec.{T, eqb, ltb, lit<, ltb→lt}
 use lib.ListN.{length}
 use Rattle.alu.specs.declared.Mode.{Mode}
 use Rattle.alu.specs.declared.Mode.TheVariants.{Byte, Word}
-use Rattle.choice.proofs.Spans.{span, below, equal-below, both}
+use Rattle.choice.proofs.Spans.{span, below, equal_below, both}
 use Rattle.isa.specs.declared.Row.{Row}
 use Rattle.isa.specs.declared.Family.{Family}
 use Rattle.isa.specs.declared.Family.TheVariants.{Tor1, Rotr1, Rotr2, Rotc, Rotm, Sor, Bor2, Tor2, Shftr, Crcf, Crcr, Prt1, Prt2, Prt3, Svstr, Sonr, Tonr, Shftnr, Bor1, Bonr, Rotnr, Prtnr, Svstnr, Setst, Rstst, Test, Noop}
-use Rattle.isa.specs.Fields.{markFor}
+use Rattle.isa.specs.Fields.{mark_for}
 use Rattle.isa.specs.Table.{rows, row_at, no_row, number_of}
 use Rattle.isa.specs.Decision.{Narrow}
 
@@ -51,26 +51,26 @@ own_row Noop = (lit< tt, refl)
 numbered : T (span 0 no_row (λ i. eqb (number_of (row_at i).family) i))
 numbered = tt
 
-pub own-number : (i : ℕ) → i < no_row → number_of (row_at i).family ≡ i
-own-number i = equal-below (λ i. number_of (row_at i).family) (λ i. i) no_row i numbered
+pub own_number : (i : ℕ) → i < no_row → number_of (row_at i).family ≡ i
+own_number i = equal_below (λ i. number_of (row_at i).family) (λ i. i) no_row i numbered
 
 -- every row is narrow
-narrow-test : ℕ → Bool
-narrow-test i =
+narrow_test : ℕ → Bool
+narrow_test i =
     elim (ltb (row_at i).quadrant 4) [
       | false ↦ false
       | true ↦ elim (ltb (row_at i).a 0x10000) [ false ↦ false | true ↦ elim (ltb (row_at i).b 0x10000) [ false ↦ false | true ↦ ltb (row_at i).c 0x100000000 ] ]
     ]
 
-all-narrow : T (span 0 no_row narrow-test)
-unfolding narrow-test
-all-narrow = tt
+all_narrow : T (span 0 no_row narrow_test)
+unfolding narrow_test
+all_narrow = tt
 
 pub narrow : (i : ℕ) → i < no_row → Narrow (row_at i)
-unfolding narrow-test
+unfolding narrow_test
 narrow i h =
     let r = row_at i in
-    let t = below narrow-test no_row i all-narrow h in
+    let t = below narrow_test no_row i all_narrow h in
     let q = both (ltb r.quadrant 4) (elim (ltb r.a 0x10000) [ false ↦ false | true ↦ elim (ltb r.b 0x10000) [ false ↦ false | true ↦ ltb r.c 0x100000000 ] ]) t in
     let a = both (ltb r.a 0x10000) (elim (ltb r.b 0x10000) [ false ↦ false | true ↦ ltb r.c 0x100000000 ]) q.1 in
     let b = both (ltb r.b 0x10000) (ltb r.c 0x100000000) a.1 in
@@ -81,9 +81,9 @@ narrow i h =
       c = ltb→lt r.c 0x100000000 b.1;
     }
 
-pub narrow-row : (r : Row) (i : ℕ) → i < no_row → r ≡ row_at i → Narrow r
-narrow-row r i h e = rw e (narrow i h)
+pub narrow_row : (r : Row) (i : ℕ) → i < no_row → r ≡ row_at i → Narrow r
+narrow_row r i h e = rw e (narrow i h)
 
-pub mark-small : (d : Mode) → markFor d < 2
-mark-small Byte = lit< tt
-mark-small Word = lit< tt
+pub mark_small : (d : Mode) → mark_for d < 2
+mark_small Byte = lit< tt
+mark_small Word = lit< tt

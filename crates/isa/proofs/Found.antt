@@ -11,30 +11,30 @@ use borrow.Author.Tests.{eq-eqb, eqb-true, eqb-false, leb-true, leb-false}
 use Rattle.choice.specs.Pick.{pick}
 use Rattle.choice.proofs.Spans.{never}
 use Rattle.isa.specs.declared.Row.{Row}
-use Rattle.isa.specs.Fields.{mark_of, quadrantOf, fieldA, fieldB, fieldC}
+use Rattle.isa.specs.Fields.{mark_of, quadrant_of, field_a, field_b, field_c}
 use Rattle.isa.specs.Sets.{has}
 use Rattle.isa.specs.Table.{rows, row_at, no_row}
 use Rattle.isa.specs.Slots.{agrees, fits, takes, fitting, with_c, row_of}
-use Rattle.isa.specs.Words.{wordNumber}
-use Rattle.isa.specs.Decision.{SameRow, takesWord}
-use Rattle.isa.proofs.Lists.{any-default}
-use Rattle.isa.proofs.Takes.{in-turn}
-use Rattle.isa.proofs.Disjoint.{one-row}
+use Rattle.isa.specs.Words.{word_number}
+use Rattle.isa.specs.Decision.{SameRow, takes_word}
+use Rattle.isa.proofs.Lists.{any_default}
+use Rattle.isa.proofs.Takes.{in_turn}
+use Rattle.isa.proofs.Disjoint.{one_row}
 
 -- what stands past the table
 abbrev blank : Row
 blank = row_at no_row
 
 -- a row takes bits 15 to 5 by its quadrant and by the rest
-fits-of : (r : Row) (mark q a b : ℕ) → r.quadrant ≡ q → agrees r mark a b ≡ true → fits r mark q a b ≡ true
-fits-of r mark q a b e t = by-test (eqb r.quadrant q) (eq-eqb r.quadrant q e)
+fits_of : (r : Row) (mark q a b : ℕ) → r.quadrant ≡ q → agrees r mark a b ≡ true → fits r mark q a b ≡ true
+fits_of r mark q a b e t = by-test (eqb r.quadrant q) (eq-eqb r.quadrant q e)
   where
     by-test : (x : Bool) → x ≡ true → elim x [ false ↦ false | true ↦ agrees r mark a b ] ≡ true
     by-test true h = t
     by-test false h = absurd (never h)
 
-of-fits : (r : Row) (mark q a b : ℕ) → fits r mark q a b ≡ true → (r.quadrant ≡ q) × (agrees r mark a b ≡ true)
-of-fits r mark q a b t = by-test (eqb r.quadrant q) refl t
+of_fits : (r : Row) (mark q a b : ℕ) → fits r mark q a b ≡ true → (r.quadrant ≡ q) × (agrees r mark a b ≡ true)
+of_fits r mark q a b t = by-test (eqb r.quadrant q) refl t
   where
     by-test : (x : Bool) → eqb r.quadrant q ≡ x → elim x [ false ↦ false | true ↦ agrees r mark a b ] ≡ true → (r.quadrant ≡ q) × (agrees r mark a b ≡ true)
     by-test true h t = (eqb-true r.quadrant q h, t)
@@ -53,14 +53,14 @@ From k rs = (j : ℕ) → j < length rs → get_or rs j blank ≡ row_at (k + j)
 from_tail : (k : ℕ) (r : Row) (rs : List Row) → From k (r ∷ rs) → From (suc k) rs
 from_tail k r rs f j h = let e : k + suc j ≡ suc k + j = omega arith in f (suc j) (omega arith) ∙ ap row_at e
 
-from-head : (k : ℕ) (r : Row) (rs : List Row) → From k (r ∷ rs) → r ≡ row_at k
-from-head k r rs f = let e : k + 0 ≡ k = omega arith in f 0 (omega arith) ∙ ap row_at e
+from_head : (k : ℕ) (r : Row) (rs : List Row) → From k (r ∷ rs) → r ≡ row_at k
+from_head k r rs f = let e : k + 0 ≡ k = omega arith in f 0 (omega arith) ∙ ap row_at e
 
 in_table : 0 + length rows ≤ no_row
 in_table = omega arith
 
 whole : From 0 rows
-whole j h = let e : j ≡ 0 + j = omega arith in any-default rows j blank _ h ∙ ap row_at e
+whole j h = let e : j ≡ 0 + j = omega arith in any_default rows j blank _ h ∙ ap row_at e
 
 module _ (mark q a b c : ℕ) where
   -- one row k before the rows already gone through
@@ -72,7 +72,7 @@ module _ (mark q a b c : ℕ) where
         → (with_c rest c < no_row → Belongs mark q a b c (with_c rest c)) → pick y k (with_c rest c) < no_row
         → Belongs mark q a b c (pick y k (with_c rest c))
     found-by-c true t f next h =
-        let u = of-fits (row_at k) mark q a b (rw e at f) in
+        let u = of_fits (row_at k) mark q a b (rw e at f) in
         record { listed = l; quadrant = u.0; fields = rw (u.1, t) }
     found-by-c false t f next h = next h
 
@@ -90,9 +90,9 @@ module _ (mark q a b c : ℕ) where
     finds-next false h = h
 
     finds-here : (x : Bool) → fits r mark q a b ≡ x → Belongs mark q a b c k → with_it x < no_row
-    finds-here true f t = rw (in-turn (agrees (row_at k) mark a b) (has (row_at k).c c) t.fields).1 l
+    finds-here true f t = rw (in_turn (agrees (row_at k) mark a b) (has (row_at k).c c) t.fields).1 l
     finds-here false f t =
-        absurd (never (sym f ∙ rw e (fits-of (row_at k) mark q a b t.quadrant (in-turn (agrees (row_at k) mark a b) (has (row_at k).c c) t.fields).0)))
+        absurd (never (sym f ∙ rw e (fits_of (row_at k) mark q a b t.quadrant (in_turn (agrees (row_at k) mark a b) (has (row_at k).c c) t.fields).0)))
 
   abbrev at : List Row → ℕ → ℕ
   at rs k = with_c (fitting rs k mark q a b) c
@@ -101,17 +101,17 @@ module _ (mark q a b c : ℕ) where
   found : (k : ℕ) (rs : List Row) → From k rs → k + length rs ≤ no_row → at rs k < no_row → Belongs mark q a b c (at rs k)
   found k [] f l h = absurd (omega arith)
   found k (r ∷ rs) f l h =
-      found-step k r (from-head k r rs f) (omega arith) (fitting rs (suc k) mark q a b) (fits r mark q a b) refl
+      found-step k r (from_head k r rs f) (omega arith) (fitting rs (suc k) mark q a b) (fits r mark q a b) refl
       (found (suc k) rs (from_tail k r rs f) (omega arith)) h
 
   -- something is found if one of the rows from k on takes the fields
   finds : (k : ℕ) (rs : List Row) → From k rs → k + length rs ≤ no_row → (j : ℕ) → j < length rs → Belongs mark q a b c (k + j) → at rs k < no_row
   finds k [] f l j h t = absurd (not-suc-le-zero h)
   finds k (r ∷ rs) f l zero h t =
-      finds-here k r (from-head k r rs f) (omega arith) (fitting rs (suc k) mark q a b) (fits r mark q a b) refl
+      finds-here k r (from_head k r rs f) (omega arith) (fitting rs (suc k) mark q a b) (fits r mark q a b) refl
       (subst (λ (i : ℕ). Belongs mark q a b c i) (omega arith) t)
   finds k (r ∷ rs) f l (suc j) h t =
-      finds-next k r (from-head k r rs f) (omega arith) (fitting rs (suc k) mark q a b) (fits r mark q a b)
+      finds-next k r (from_head k r rs f) (omega arith) (fitting rs (suc k) mark q a b) (fits r mark q a b)
       (finds (suc k) rs (from_tail k r rs f) (omega arith) j (omega arith) (subst (λ (i : ℕ). Belongs mark q a b c i) (omega arith) t))
 
   -- the row that is found takes the fields
@@ -123,11 +123,11 @@ module _ (mark q a b c : ℕ) where
   belongs-row i t =
       let e : i ≡ 0 + i = omega arith in
       let u = row-belongs (finds 0 rows whole in_table i t.listed (subst (λ (i : ℕ). Belongs mark q a b c i) e t)) in
-      one-row (row_of mark q a b c) i mark a b c u.listed t.listed (u.quadrant ∙ sym t.quadrant) u.fields t.fields
+      one_row (row_of mark q a b c) i mark a b c u.listed t.listed (u.quadrant ∙ sym t.quadrant) u.fields t.fields
 
 -- row i takes a word
 abbrev pub TakesWord : ℕ → ℕ → Type 0
-TakesWord w i = Belongs (mark_of w) (quadrantOf w) (fieldA w) (fieldB w) (fieldC w) i
+TakesWord w i = Belongs (mark_of w) (quadrant_of w) (field_a w) (field_b w) (field_c w) i
 
 apart : (i : ℕ) → i < no_row → no_row ≤ i → ⊥
 apart i h l = omega arith
@@ -140,8 +140,8 @@ pub record Past (w i : ℕ) : Type 0 where
   pub bound : i ≤ no_row
   pub none : (j : ℕ) → j < i → TakesWord w j → ⊥
 
-pub past-start : (w : ℕ) → Past w 0
-past-start w = record { bound = omega arith; none = λ j h. absurd (not-suc-le-zero h) }
+pub past_start : (w : ℕ) → Past w 0
+past_start w = record { bound = omega arith; none = λ j h. absurd (not-suc-le-zero h) }
 
 past_next : (w i : ℕ) → Past w i → i < no_row → (TakesWord w i → ⊥) → Past w (i + 1)
 past_next w i p h n = record { bound = omega arith; none = λ j l t. by-test j l t (eqb j i) refl }
@@ -151,26 +151,26 @@ past_next w i p h n = record { bound = omega arith; none = λ j l t. by-test j l
     by-test j l t false q = p.none j (omega (arith, eqb-false j i q)) t
 
 -- row i takes the word, which is then its own, or does not
-module _ (w i : ℕ) (p : Past w i) (h : i < no_row) (t : Bool) (e : t ≡ takesWord (row_at i) w) where
+module _ (w i : ℕ) (p : Past w i) (h : i < no_row) (t : Bool) (e : t ≡ takes_word (row_at i) w) where
   pub row-found : t ≡ true → SameRow w i
   unfolding SameRow
   row-found f =
-      let u = in-turn (eqb (row_at i).quadrant (quadrantOf w)) (takes (row_at i) (mark_of w) (fieldA w) (fieldB w) (fieldC w)) (sym e ∙ f) in
-      let belongs : TakesWord w i = record { listed = h; quadrant = eqb-true (row_at i).quadrant (quadrantOf w) u.0; fields = u.1 } in
-      (λ l. sym (belongs-row (mark_of w) (quadrantOf w) (fieldA w) (fieldB w) (fieldC w) i belongs), λ l. absurd (apart i h l))
+      let u = in_turn (eqb (row_at i).quadrant (quadrant_of w)) (takes (row_at i) (mark_of w) (field_a w) (field_b w) (field_c w)) (sym e ∙ f) in
+      let belongs : TakesWord w i = record { listed = h; quadrant = eqb-true (row_at i).quadrant (quadrant_of w) u.0; fields = u.1 } in
+      (λ l. sym (belongs-row (mark_of w) (quadrant_of w) (field_a w) (field_b w) (field_c w) i belongs), λ l. absurd (apart i h l))
 
   pub row-past : t ≡ false → Past w (i + 1)
   row-past f =
       past_next w i p h
-      (λ b. never (sym f ∙ e ∙ rw (eq-eqb (row_at i).quadrant (quadrantOf w) b.quadrant, b.fields)))
+      (λ b. never (sym f ∙ e ∙ rw (eq-eqb (row_at i).quadrant (quadrant_of w) b.quadrant, b.fields)))
 
 -- past the last row no row takes the word
-pub row-missed : (w i : ℕ) → Past w i → no_row ≤ i → SameRow w i
+pub row_missed : (w i : ℕ) → Past w i → no_row ≤ i → SameRow w i
 unfolding SameRow
-row-missed w i p h = (λ l. absurd (apart i l h), λ l. by-test (leb no_row (wordNumber w)) refl)
+row_missed w i p h = (λ l. absurd (apart i l h), λ l. by-test (leb no_row (word_number w)) refl)
   where
-    by-test : (b : Bool) → leb no_row (wordNumber w) ≡ b → no_row ≤ wordNumber w
-    by-test true q = leb-true no_row (wordNumber w) q
+    by-test : (b : Bool) → leb no_row (word_number w) ≡ b → no_row ≤ word_number w
+    by-test true q = leb-true no_row (word_number w) q
     by-test false q =
-        let listed : wordNumber w < no_row = leb-false no_row (wordNumber w) q in
-        absurd (p.none (wordNumber w) (within (wordNumber w) no_row i listed h) (row-belongs (mark_of w) (quadrantOf w) (fieldA w) (fieldB w) (fieldC w) listed))
+        let listed : word_number w < no_row = leb-false no_row (word_number w) q in
+        absurd (p.none (word_number w) (within (word_number w) no_row i listed h) (row-belongs (mark_of w) (quadrant_of w) (field_a w) (field_b w) (field_c w) listed))

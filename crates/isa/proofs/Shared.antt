@@ -5,7 +5,7 @@ use mathlib.Core.List.{List, [], ◌∷◌}
 use Prim.Native.Nat.{ℕ, ◌<◌}
 use lib.Dec.{T, eqb, eqb→eq}
 use Rattle.choice.proofs.Spans.{span, below, both}
-use Rattle.isa.specs.Slots.{slotRows}
+use Rattle.isa.specs.Slots.{slot_rows}
 use Rattle.isa.specs.Decision.{slot_of, sharing}
 
 -- two lists of numbers are the same
@@ -15,25 +15,25 @@ alike [] (y ∷ ys) = false
 alike (x ∷ xs) [] = false
 alike (x ∷ xs) (y ∷ ys) = elim (eqb x y) [ true ↦ alike xs ys | false ↦ false ]
 
-alike-eq : (xs ys : List ℕ) → T (alike xs ys) → xs ≡ ys
-alike-eq [] [] t = refl
-alike-eq [] (y ∷ ys) t = absurd t
-alike-eq (x ∷ xs) [] t = absurd t
-alike-eq (x ∷ xs) (y ∷ ys) t =
+alike_eq : (xs ys : List ℕ) → T (alike xs ys) → xs ≡ ys
+alike_eq [] [] t = refl
+alike_eq [] (y ∷ ys) t = absurd t
+alike_eq (x ∷ xs) [] t = absurd t
+alike_eq (x ∷ xs) (y ∷ ys) t =
     let h = both (eqb x y) (alike xs ys) t in
-    ap (λ (z : ℕ). z ∷ xs) (eqb→eq x y h.0) ∙ ap (λ zs. y ∷ zs) (alike-eq xs ys h.1)
+    ap (λ (z : ℕ). z ∷ xs) (eqb→eq x y h.0) ∙ ap (λ zs. y ∷ zs) (alike_eq xs ys h.1)
 
 told : ℕ → ℕ → ℕ → ℕ → Bool
-told m q a b = alike (slotRows m q a b) (sharing (slot_of m q a b))
+told m q a b = alike (slot_rows m q a b) (sharing (slot_of m q a b))
 
 all_told : T (span 0 2 (λ m. span 0 4 (λ q. span 0 16 (λ a. span 0 16 (λ b. told m q a b)))))
 unfolding told
 all_told = tt
 
-pub shares : (m q a b : ℕ) → (m < 2) × (q < 4) × (a < 16) × (b < 16) → slotRows m q a b ≡ sharing (slot_of m q a b)
+pub shares : (m q a b : ℕ) → (m < 2) × (q < 4) × (a < 16) × (b < 16) → slot_rows m q a b ≡ sharing (slot_of m q a b)
 unfolding told
 shares m q a b h =
-    alike-eq (slotRows m q a b) (sharing (slot_of m q a b))
+    alike_eq (slot_rows m q a b) (sharing (slot_of m q a b))
     (below (λ b. told m q a b) 16 b
     (below (λ a. span 0 16 (λ b. told m q a b)) 16 a
     (below (λ q. span 0 16 (λ a. span 0 16 (λ b. told m q a b))) 4 q

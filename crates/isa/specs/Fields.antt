@@ -9,20 +9,20 @@ abbrev pub mark_of : ℕ → ℕ
 mark_of w = w / 0x8000
 
 -- bits 14 and 13
-abbrev pub quadrantOf : ℕ → ℕ
-quadrantOf w = w / 0x2000 % 4
+abbrev pub quadrant_of : ℕ → ℕ
+quadrant_of w = w / 0x2000 % 4
 
 -- bits 12 to 9
-abbrev pub fieldA : ℕ → ℕ
-fieldA w = w / 0x200 % 16
+abbrev pub field_a : ℕ → ℕ
+field_a w = w / 0x200 % 16
 
 -- bits 8 to 5
-abbrev pub fieldB : ℕ → ℕ
-fieldB w = w / 0x20 % 16
+abbrev pub field_b : ℕ → ℕ
+field_b w = w / 0x20 % 16
 
 -- bits 4 to 0
-abbrev pub fieldC : ℕ → ℕ
-fieldC w = w % 32
+abbrev pub field_c : ℕ → ℕ
+field_c w = w % 32
 
 -- the word that has these fields
 abbrev pub word_of : ℕ → ℕ → ℕ → ℕ → ℕ → ℕ
@@ -33,6 +33,6 @@ abbrev pub mode_of : ℕ → Mode
 mode_of mark = pick (eqb mark 0) Byte Word
 
 -- and back
-abbrev pub markFor : Mode → ℕ
-markFor Byte = 0
-markFor Word = 1
+abbrev pub mark_for : Mode → ℕ
+mark_for Byte = 0
+mark_for Word = 1

@@ -24,8 +24,8 @@ fitting (r ∷ rs) i mark q a b =
     elim (fits r mark q a b) [ true ↦ i ∷ fitting rs (suc i) mark q a b | false ↦ fitting rs (suc i) mark q a b ]
 
 -- a slot: the numbers of the rows that bits 15 to 5 leave
-abbrev pub slotRows : ℕ → ℕ → ℕ → ℕ → List ℕ
-slotRows mark q a b = fitting rows 0 mark q a b
+abbrev pub slot_rows : ℕ → ℕ → ℕ → ℕ → List ℕ
+slot_rows mark q a b = fitting rows 0 mark q a b
 
 -- the first of some rows whose list for C has c
 abbrev pub with_c : List ℕ → ℕ → ℕ
@@ -34,4 +34,4 @@ with_c (i ∷ is) c = pick (has (row_at i).c c) i (with_c is c)
 
 -- the row that these fields belong to
 abbrev pub row_of : ℕ → ℕ → ℕ → ℕ → ℕ → ℕ
-row_of mark q a b c = with_c (slotRows mark q a b) c
+row_of mark q a b c = with_c (slot_rows mark q a b) c

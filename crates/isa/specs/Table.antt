@@ -10,15 +10,15 @@ use Rattle.isa.specs.Sets.{these, upto}
 abbrev pub both : ℕ
 both = these (0 ∷ 1 ∷ [])
 
-abbrev pub byteOnly : ℕ
-byteOnly = these (0 ∷ [])
+abbrev pub byte_only : ℕ
+byte_only = these (0 ∷ [])
 
-abbrev pub wordOnly : ℕ
-wordOnly = these (1 ∷ [])
+abbrev pub word_only : ℕ
+word_only = these (1 ∷ [])
 
 -- field A where it is n, the place of a bit or the places of a rotate
-abbrev pub anyN : ℕ
-anyN = upto 15
+abbrev pub any_n : ℕ
+any_n = upto 15
 
 -- field C where it is a RAM address
 abbrev pub address : ℕ
@@ -33,20 +33,20 @@ abbrev pub pairs : ℕ
 pairs = these (0 ∷ 2 ∷ 3 ∷ 8 ∷ 10 ∷ 11 ∷ 12 ∷ 14 ∷ 15 ∷ [])
 
 -- field A of TOR2 and TONR: the pairs without RAM
-abbrev pub pairsNoRam : ℕ
-pairsNoRam = these (1 ∷ 2 ∷ 5 ∷ [])
+abbrev pub pairs_no_ram : ℕ
+pairs_no_ram = these (1 ∷ 2 ∷ 5 ∷ [])
 
 -- field A of SOR and SONR: MOVE, COMP, INC, NEG
-abbrev pub oneOperand : ℕ
-oneOperand = these (12 ∷ 13 ∷ 14 ∷ 15 ∷ [])
+abbrev pub one_operand : ℕ
+one_operand = these (12 ∷ 13 ∷ 14 ∷ 15 ∷ [])
 
 -- field B of SOR: the sources and destinations
-abbrev pub sourcesRam : ℕ
-sourcesRam = these (0 ∷ 2 ∷ 3 ∷ 4 ∷ 6 ∷ 7 ∷ 8 ∷ 9 ∷ 10 ∷ 11 ∷ [])
+abbrev pub sources_ram : ℕ
+sources_ram = these (0 ∷ 2 ∷ 3 ∷ 4 ∷ 6 ∷ 7 ∷ 8 ∷ 9 ∷ 10 ∷ 11 ∷ [])
 
 -- field B of SONR: the sources
-abbrev pub sourcesNoRam : ℕ
-sourcesNoRam = these (4 ∷ 6 ∷ 7 ∷ 8 ∷ 9 ∷ 10 ∷ [])
+abbrev pub sources_no_ram : ℕ
+sources_no_ram = these (4 ∷ 6 ∷ 7 ∷ 8 ∷ 9 ∷ 10 ∷ [])
 
 -- field B of SHFTR and SHFTNR: up with 0, 1, LINK; down with 0, 1, LINK, C, N xor OVR
 abbrev pub shifts : ℕ
@@ -61,40 +61,40 @@ abbrev pub destinations : ℕ
 destinations = these (0 ∷ 1 ∷ 4 ∷ 5 ∷ [])
 
 -- field C of SHFTNR, PRTNR and SVSTNR: Y, ACC
-abbrev pub yOrAcc : ℕ
-yOrAcc = these (0 ∷ 1 ∷ [])
+abbrev pub y_or_acc : ℕ
+y_or_acc = these (0 ∷ 1 ∷ [])
 
 -- field C of SETST and RSTST: the four flags, LINK, Flag1 to Flag3
 abbrev pub flags : ℕ
 flags = these (3 ∷ 5 ∷ 6 ∷ 9 ∷ 10 ∷ [])
 
 -- field C of TEST: twice a code from 0 to 11
-abbrev pub twiceCodes : ℕ
-twiceCodes = these (0 ∷ 2 ∷ 4 ∷ 6 ∷ 8 ∷ 10 ∷ 12 ∷ 14 ∷ 16 ∷ 18 ∷ 20 ∷ 22 ∷ [])
+abbrev pub twice_codes : ℕ
+twice_codes = these (0 ∷ 2 ∷ 4 ∷ 6 ∷ 8 ∷ 10 ∷ 12 ∷ 14 ∷ 16 ∷ 18 ∷ 20 ∷ 22 ∷ [])
 
 -- field C of BONR: test, reset, set, add, subtract, load, load complement, on ACC and then on D
-abbrev pub bitActs : ℕ
-bitActs = these (0 ∷ 1 ∷ 2 ∷ 4 ∷ 5 ∷ 6 ∷ 7 ∷ 16 ∷ 17 ∷ 18 ∷ 20 ∷ 21 ∷ 22 ∷ 23 ∷ [])
+abbrev pub bit_acts : ℕ
+bit_acts = these (0 ∷ 1 ∷ 2 ∷ 4 ∷ 5 ∷ 6 ∷ 7 ∷ 16 ∷ 17 ∷ 18 ∷ 20 ∷ 21 ∷ 22 ∷ 23 ∷ [])
 
 -- field C of ROTNR: D to Y, D to ACC, ACC to Y, ACC to ACC
 abbrev pub turns : ℕ
 turns = these (24 ∷ 25 ∷ 28 ∷ 29 ∷ [])
 
 -- a family's rule beyond the lists, by the number of the refusal where it does not hold
-abbrev pub noRule : ℕ
-noRule = 0
+abbrev pub no_rule : ℕ
+no_rule = 0
 
 -- ACC is not source and mask at once
-abbrev pub oneAcc : ℕ
-oneAcc = 8
+abbrev pub one_acc : ℕ
+one_acc = 8
 
 -- in byte mode n is at most 7
-abbrev pub bitInMode : ℕ
-bitInMode = 9
+abbrev pub bit_in_mode : ℕ
+bit_in_mode = 9
 
 -- the values of A, or of B, with which an instruction of the family has an I operand: bit k for A, bit 16 + k for B
-abbrev pub withA : List ℕ → ℕ
-withA ks = these ks
+abbrev pub with_a : List ℕ → ℕ
+with_a ks = these ks
 
 abbrev pub with_b : List ℕ → ℕ
 with_b ks = these ks * 2 ^ 16
@@ -109,41 +109,41 @@ row f q m a b c r i = record { family = f; quadrant = q; modes = m; a = a; b = b
 abbrev pub rows : List Row
 rows =
     -- Q0. TOR1: A the pair and its destination, B the operation. ROTR1: A n, B the destination.
-    row Tor1 0 both pairs operations address noRule (withA (2 ∷ 10 ∷ 14 ∷ []))
-    ∷ row Rotr1 0 both anyN (these (12 ∷ 14 ∷ 15 ∷ [])) address noRule never
+    row Tor1 0 both pairs operations address no_rule (with_a (2 ∷ 10 ∷ 14 ∷ []))
+    ∷ row Rotr1 0 both any_n (these (12 ∷ 14 ∷ 15 ∷ [])) address no_rule never
     -- Q1. A n. B the operands and, but for ROTC, the destination.
-    ∷ row Rotr2 1 both anyN (these (0 ∷ 1 ∷ [])) address noRule never
-    ∷ row Rotc 1 both anyN (these (2 ∷ 3 ∷ 4 ∷ 5 ∷ [])) address noRule (with_b (2 ∷ 3 ∷ 5 ∷ []))
-    ∷ row Rotm 1 both anyN (these (7 ∷ 8 ∷ 9 ∷ 10 ∷ 12 ∷ 14 ∷ [])) address noRule (with_b (7 ∷ 9 ∷ 12 ∷ 14 ∷ []))
+    ∷ row Rotr2 1 both any_n (these (0 ∷ 1 ∷ [])) address no_rule never
+    ∷ row Rotc 1 both any_n (these (2 ∷ 3 ∷ 4 ∷ 5 ∷ [])) address no_rule (with_b (2 ∷ 3 ∷ 5 ∷ []))
+    ∷ row Rotm 1 both any_n (these (7 ∷ 8 ∷ 9 ∷ 10 ∷ 12 ∷ 14 ∷ [])) address no_rule (with_b (7 ∷ 9 ∷ 12 ∷ 14 ∷ []))
     -- Q2. SOR: A the operation, B source and destination. BOR2: A n, B the operation. TOR2: A the pair, B the operation.
-    ∷ row Sor 2 both oneOperand sourcesRam address noRule (with_b (7 ∷ []))
-    ∷ row Bor2 2 both anyN (these (12 ∷ 13 ∷ 14 ∷ 15 ∷ [])) address bitInMode never
-    ∷ row Tor2 2 both pairsNoRam operations address noRule (withA (2 ∷ 5 ∷ []))
+    ∷ row Sor 2 both one_operand sources_ram address no_rule (with_b (7 ∷ []))
+    ∷ row Bor2 2 both any_n (these (12 ∷ 13 ∷ 14 ∷ 15 ∷ [])) address bit_in_mode never
+    ∷ row Tor2 2 both pairs_no_ram operations address no_rule (with_a (2 ∷ 5 ∷ []))
     -- SHFTR: A the source, B the shift. CRCF and CRCR stand among the shifts, in word mode only.
-    ∷ row Shftr 2 both (these (6 ∷ 7 ∷ [])) shifts address noRule never
-    ∷ row Crcf 2 wordOnly (these (6 ∷ [])) (these (3 ∷ [])) address noRule never
-    ∷ row Crcr 2 wordOnly (these (6 ∷ [])) (these (9 ∷ [])) address noRule never
+    ∷ row Shftr 2 both (these (6 ∷ 7 ∷ [])) shifts address no_rule never
+    ∷ row Crcf 2 word_only (these (6 ∷ [])) (these (3 ∷ [])) address no_rule never
+    ∷ row Crcr 2 word_only (these (6 ∷ [])) (these (9 ∷ [])) address no_rule never
     -- PRT1: A the destination, B the source. PRT2: A the mask, B the destination. PRT3: A the mask, B the source; 4 is ACC.
-    ∷ row Prt1 2 both (these (8 ∷ 10 ∷ 11 ∷ [])) (these (7 ∷ 9 ∷ [])) address noRule never
-    ∷ row Prt2 2 both masks (these (0 ∷ 2 ∷ [])) address noRule (withA (11 ∷ []))
-    ∷ row Prt3 2 both masks (these (3 ∷ 4 ∷ 6 ∷ [])) address oneAcc (withA (11 ∷ []))
-    ∷ row Svstr 2 both (these (7 ∷ [])) (these (10 ∷ [])) address noRule never
+    ∷ row Prt1 2 both (these (8 ∷ 10 ∷ 11 ∷ [])) (these (7 ∷ 9 ∷ [])) address no_rule never
+    ∷ row Prt2 2 both masks (these (0 ∷ 2 ∷ [])) address no_rule (with_a (11 ∷ []))
+    ∷ row Prt3 2 both masks (these (3 ∷ 4 ∷ 6 ∷ [])) address one_acc (with_a (11 ∷ []))
+    ∷ row Svstr 2 both (these (7 ∷ [])) (these (10 ∷ [])) address no_rule never
     -- Q3. SONR, TONR, SHFTNR: the operation as in Q2, no operand in RAM, C the destination.
-    ∷ row Sonr 3 both oneOperand sourcesNoRam destinations noRule (with_b (7 ∷ []))
-    ∷ row Tonr 3 both pairsNoRam operations destinations noRule (withA (2 ∷ 5 ∷ []))
-    ∷ row Shftnr 3 both (these (6 ∷ 7 ∷ [])) shifts yOrAcc noRule never
+    ∷ row Sonr 3 both one_operand sources_no_ram destinations no_rule (with_b (7 ∷ []))
+    ∷ row Tonr 3 both pairs_no_ram operations destinations no_rule (with_a (2 ∷ 5 ∷ []))
+    ∷ row Shftnr 3 both (these (6 ∷ 7 ∷ [])) shifts y_or_acc no_rule never
     -- BOR1: A n, B set, reset, test, C a RAM address. BONR and ROTNR: A n, and only C tells one from the other.
-    ∷ row Bor1 3 both anyN (these (13 ∷ 14 ∷ 15 ∷ [])) address bitInMode never
-    ∷ row Bonr 3 both anyN (these (12 ∷ [])) bitActs bitInMode never
-    ∷ row Rotnr 3 both anyN (these (12 ∷ [])) turns noRule never
+    ∷ row Bor1 3 both any_n (these (13 ∷ 14 ∷ 15 ∷ [])) address bit_in_mode never
+    ∷ row Bonr 3 both any_n (these (12 ∷ [])) bit_acts bit_in_mode never
+    ∷ row Rotnr 3 both any_n (these (12 ∷ [])) turns no_rule never
     -- PRTNR: A the mask, B the source, C the destination. SVSTNR: C the destination.
-    ∷ row Prtnr 3 both masks (these (4 ∷ 6 ∷ [])) yOrAcc oneAcc (withA (11 ∷ []))
-    ∷ row Svstnr 3 both (these (7 ∷ [])) (these (10 ∷ [])) yOrAcc noRule never
+    ∷ row Prtnr 3 both masks (these (4 ∷ 6 ∷ [])) y_or_acc one_acc (with_a (11 ∷ []))
+    ∷ row Svstnr 3 both (these (7 ∷ [])) (these (10 ∷ [])) y_or_acc no_rule never
     -- with the byte mark only
-    ∷ row Setst 3 byteOnly (these (11 ∷ [])) (these (10 ∷ [])) flags noRule never
-    ∷ row Rstst 3 byteOnly (these (10 ∷ [])) (these (10 ∷ [])) flags noRule never
-    ∷ row Test 3 byteOnly (these (9 ∷ [])) (these (10 ∷ [])) twiceCodes noRule never
-    ∷ row Noop 3 byteOnly (these (8 ∷ [])) (these (10 ∷ [])) (these (0 ∷ [])) noRule never
+    ∷ row Setst 3 byte_only (these (11 ∷ [])) (these (10 ∷ [])) flags no_rule never
+    ∷ row Rstst 3 byte_only (these (10 ∷ [])) (these (10 ∷ [])) flags no_rule never
+    ∷ row Test 3 byte_only (these (9 ∷ [])) (these (10 ∷ [])) twice_codes no_rule never
+    ∷ row Noop 3 byte_only (these (8 ∷ [])) (these (10 ∷ [])) (these (0 ∷ [])) no_rule never
     ∷ []
 
 -- rows are numbered 0 to 26; the number past the last says that there is no row
@@ -152,7 +152,7 @@ no_row = 27
 
 -- the row of a number; past the last one a row that takes nothing, whose family means nothing
 abbrev pub row_at : ℕ → Row
-row_at i = get_or rows i (row Tor1 0 0 0 0 0 noRule never)
+row_at i = get_or rows i (row Tor1 0 0 0 0 0 no_rule never)
 
 -- the number of a family's row
 abbrev pub number_of : Family → ℕ

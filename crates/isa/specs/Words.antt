@@ -10,100 +10,100 @@ use Rattle.isa.specs.declared.Named.{Named}
 use Rattle.isa.specs.declared.Lookup.{Lookup}
 use Rattle.isa.specs.declared.Decoded.{Decoded}
 use Rattle.isa.specs.declared.Encoded.{Encoded}
-use Rattle.isa.specs.Fields.{mark_of, quadrantOf, fieldA, fieldB, fieldC, word_of, mode_of, markFor}
+use Rattle.isa.specs.Fields.{mark_of, quadrant_of, field_a, field_b, field_c, word_of, mode_of, mark_for}
 use Rattle.isa.specs.Sets.{has}
-use Rattle.isa.specs.Table.{row_at, no_row, number_of, oneAcc, bitInMode}
+use Rattle.isa.specs.Table.{row_at, no_row, number_of, one_acc, bit_in_mode}
 use Rattle.isa.specs.Slots.{takes, row_of}
 
 -- a family takes a word (document 01, the instruction list): the word has the quadrant of the family's row, and a mode and fields that the row
 -- takes. What 7, 8 and 9 mean for a word is said with it
 pub record InFamily (f : Family) (w : ℕ) : Type 0 where
-  pub quadrant : (row_at (number_of f)).quadrant ≡ quadrantOf w
-  pub fields : takes (row_at (number_of f)) (mark_of w) (fieldA w) (fieldB w) (fieldC w) ≡ true
+  pub quadrant : (row_at (number_of f)).quadrant ≡ quadrant_of w
+  pub fields : takes (row_at (number_of f)) (mark_of w) (field_a w) (field_b w) (field_c w) ≡ true
 
 -- 8: prioritize with ACC as source (B 4) and as mask (A 8)
-abbrev pub accTwice : Row → ℕ → ℕ → Bool
-accTwice r a b = pick (eqb r.rule oneAcc) (pick (eqb a 8) (eqb b 4) false) false
+abbrev pub acc_twice : Row → ℕ → ℕ → Bool
+acc_twice r a b = pick (eqb r.rule one_acc) (pick (eqb a 8) (eqb b 4) false) false
 
 -- 9: a bit instruction in byte mode with n over 7
-abbrev pub bitTooHigh : Row → ℕ → ℕ → Bool
-bitTooHigh r mark a = pick (eqb r.rule bitInMode) (pick (eqb mark 0) (ltb 7 a) false) false
+abbrev pub bit_too_high : Row → ℕ → ℕ → Bool
+bit_too_high r mark a = pick (eqb r.rule bit_in_mode) (pick (eqb mark 0) (ltb 7 a) false) false
 
 -- what a row's rule refuses, in words and named instructions alike
-abbrev pub ruleChecks : Row → ℕ → ℕ → ℕ → List Check
-ruleChecks r mark a b = check 8 (accTwice r a b) ∷ check 9 (bitTooHigh r mark a) ∷ []
+abbrev pub rule_checks : Row → ℕ → ℕ → ℕ → List Check
+rule_checks r mark a b = check 8 (acc_twice r a b) ∷ check 9 (bit_too_high r mark a) ∷ []
 
 -- the number of the row that a word belongs to, and that row
-abbrev pub wordNumber : ℕ → ℕ
-wordNumber w = row_of (mark_of w) (quadrantOf w) (fieldA w) (fieldB w) (fieldC w)
+abbrev pub word_number : ℕ → ℕ
+word_number w = row_of (mark_of w) (quadrant_of w) (field_a w) (field_b w) (field_c w)
 
-abbrev pub wordRow : ℕ → Row
-wordRow w = row_at (wordNumber w)
+abbrev pub word_row : ℕ → Row
+word_row w = row_at (word_number w)
 
 -- 7 for a word: it is not on the list
-abbrev pub unlistedWord : ℕ → List Check
-unlistedWord w = check 7 (leb no_row (wordNumber w)) ∷ []
+abbrev pub unlisted_word : ℕ → List Check
+unlisted_word w = check 7 (leb no_row (word_number w)) ∷ []
 
-abbrev pub wordChecks : ℕ → List Check
-wordChecks w = unlistedWord w ++ ruleChecks (wordRow w) (mark_of w) (fieldA w) (fieldB w)
+abbrev pub word_checks : ℕ → List Check
+word_checks w = unlisted_word w ++ rule_checks (word_row w) (mark_of w) (field_a w) (field_b w)
 
 -- the instruction that a word's row and fields name
 abbrev pub named_by : ℕ → Named
-named_by w = record { family = (wordRow w).family; mode = mode_of (mark_of w); a = fieldA w; b = fieldB w; c = fieldC w }
+named_by w = record { family = (word_row w).family; mode = mode_of (mark_of w); a = field_a w; b = field_b w; c = field_c w }
 
 -- what decoding a word tells
-unfoldable pub decodeOf : ℕ → Tells Named
-decodeOf w = tells (refusal (wordChecks w)) (named_by w)
+unfoldable pub decode_of : ℕ → Tells Named
+decode_of w = tells (refusal (word_checks w)) (named_by w)
 
 -- a flat answer: the number of the refusal, or 0, and the instruction that the word's row and fields name. Of a refused word the number alone
 -- means something
-unfoldable pub lookupOf : ℕ → Lookup
-lookupOf w = record { refusal = refusal (wordChecks w); named = named_by w }
+unfoldable pub lookup_of : ℕ → Lookup
+lookup_of w = record { refusal = refusal (word_checks w); named = named_by w }
 
 -- what the decoder's answer tells
-abbrev pub decodedTells : Decoded → Tells Named
-decodedTells (Decoded.Accepted n) = accepted n
-decodedTells (Decoded.Refused k) = refused k
+abbrev pub decoded_tells : Decoded → Tells Named
+decoded_tells (Decoded.Accepted n) = accepted n
+decoded_tells (Decoded.Refused k) = refused k
 
 -- the row of an instruction's family
-abbrev pub namedRow : Named → Row
-namedRow n = row_at (number_of n.family)
+abbrev pub named_row : Named → Row
+named_row n = row_at (number_of n.family)
 
 -- an instruction of the list: its family takes its mode and fields (document 01, the instruction list)
 abbrev pub Listed : Named → Type 0
-Listed n = takes (namedRow n) (markFor n.mode) n.a n.b n.c ≡ true
+Listed n = takes (named_row n) (mark_for n.mode) n.a n.b n.c ≡ true
 
 -- 7 for a named instruction: its family does not take its mode and fields
-abbrev pub unlistedNamed : Named → List Check
-unlistedNamed n = check 7 (not (takes (namedRow n) (markFor n.mode) n.a n.b n.c)) ∷ []
+abbrev pub unlisted_named : Named → List Check
+unlisted_named n = check 7 (not (takes (named_row n) (mark_for n.mode) n.a n.b n.c)) ∷ []
 
-abbrev pub namedChecks : Named → List Check
-namedChecks n = unlistedNamed n ++ ruleChecks (namedRow n) (markFor n.mode) n.a n.b
+abbrev pub named_checks : Named → List Check
+named_checks n = unlisted_named n ++ rule_checks (named_row n) (mark_for n.mode) n.a n.b
 
 -- the word of a named instruction of the list
 abbrev pub word_for : Named → ℕ
-word_for n = word_of (markFor n.mode) (namedRow n).quadrant n.a n.b n.c
+word_for n = word_of (mark_for n.mode) (named_row n).quadrant n.a n.b n.c
 
 -- what encoding a named instruction tells
-unfoldable pub encodeOf : Named → Tells ℕ
-encodeOf n = tells (refusal (namedChecks n)) (word_for n)
+unfoldable pub encode_of : Named → Tells ℕ
+encode_of n = tells (refusal (named_checks n)) (word_for n)
 
 -- what the encoder's answer tells
-abbrev pub encodedTells : Encoded → Tells ℕ
-encodedTells (Encoded.Accepted w) = accepted w
-encodedTells (Encoded.Refused k) = refused k
+abbrev pub encoded_tells : Encoded → Tells ℕ
+encoded_tells (Encoded.Accepted w) = accepted w
+encoded_tells (Encoded.Refused k) = refused k
 
 -- the row's instruction with these values of A and B has an I operand
-abbrev pub asksI : Row → ℕ → ℕ → Bool
-asksI r a b = pick (has r.immediate a) true (has r.immediate (16 + b))
+abbrev pub asks_i : Row → ℕ → ℕ → Bool
+asks_i r a b = pick (has r.immediate a) true (has r.immediate (16 + b))
 
-abbrev pub namesI : Option Named → Bool
-namesI none = false
-namesI (some n) = asksI (namedRow n) n.a n.b
+abbrev pub names_i : Option Named → Bool
+names_i none = false
+names_i (some n) = asks_i (named_row n) n.a n.b
 
 -- a word is accepted, and its instruction has an I operand
-unfoldable pub takesImmediate : ℕ → Bool
-takesImmediate w = namesI (decodeOf w).value
+unfoldable pub takes_immediate : ℕ → Bool
+takes_immediate w = names_i (decode_of w).value
 
 -- for laws: an answer is a value, or a refusal with 7, 8 or 9, which are all that a conversion gives (document 01, the refusal numbers)
 abbrev pub Answered : {A : Type 0} → Tells A → A → Type 0

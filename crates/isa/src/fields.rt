@@ -2,10 +2,10 @@
 ghost use Rattle.std.specs.Prelude.{◌≡◌};
 ghost use Rattle.choice.specs.Checks.{refusal};
 ghost use Rattle.isa.specs.Sets.{has};
-ghost use Rattle.isa.specs.Fields.{mark_of, quadrantOf, fieldA, fieldB, fieldC, mode_of, markFor};
+ghost use Rattle.isa.specs.Fields.{mark_of, quadrant_of, field_a, field_b, field_c, mode_of, mark_for};
 ghost use Rattle.isa.specs.Slots.{agrees, takes};
-ghost use Rattle.isa.specs.Words.{ruleChecks, asksI};
-ghost use Rattle.isa.specs.Decision.{ruleOnly};
+ghost use Rattle.isa.specs.Words.{rule_checks, asks_i};
+ghost use Rattle.isa.specs.Decision.{rule_only};
 
 use crate::Row;
 use alu::Mode;
@@ -17,25 +17,25 @@ pub(crate) fn mark_of(word: u16) -> u8
 }
 
 pub(crate) fn quadrant_of(word: u16) -> u8
-    ensures { result ≡ quadrantOf word }
+    ensures { result ≡ quadrant_of word }
 {
     (word / 0x2000 % 4) as u8
 }
 
 pub(crate) fn field_a(word: u16) -> u8
-    ensures { result ≡ fieldA word }
+    ensures { result ≡ field_a word }
 {
     (word / 0x200 % 16) as u8
 }
 
 pub(crate) fn field_b(word: u16) -> u8
-    ensures { result ≡ fieldB word }
+    ensures { result ≡ field_b word }
 {
     (word / 0x20 % 16) as u8
 }
 
 pub(crate) fn field_c(word: u16) -> u8
-    ensures { result ≡ fieldC word }
+    ensures { result ≡ field_c word }
 {
     (word % 32) as u8
 }
@@ -47,7 +47,7 @@ pub(crate) fn mode_of(mark: u8) -> Mode
 }
 
 pub(crate) fn mark_for(mode: Mode) -> u8
-    ensures { result ≡ markFor mode }
+    ensures { result ≡ mark_for mode }
 {
     match mode {
         Mode::Byte => 0,
@@ -90,7 +90,7 @@ pub(crate) fn taking(row: Row, mark: u8, a: u8, b: u8, c: u8) -> bool
 
 // What a rule refuses: 8, 9, or 0 for nothing.
 pub(crate) fn rule_refusal(rule: u8, mark: u8, a: u8, b: u8) -> u8
-    ensures { result ≡ refusal (ruleChecks (ruleOnly rule) mark a b) }
+    ensures { result ≡ refusal (rule_checks (rule_only rule) mark a b) }
 {
     if rule == 8 {
         if a == 8 {
@@ -111,7 +111,7 @@ pub(crate) fn rule_refusal(rule: u8, mark: u8, a: u8, b: u8) -> u8
 
 // Whether the row has an I operand with these values of A and B.
 pub(crate) fn asks_immediate(row: Row, a: u8, b: u8) -> bool
-    ensures { result ≡ asksI row a b }
+    ensures { result ≡ asks_i row a b }
 {
     if holds(row.immediate, a as u32) {
         true

@@ -1,4 +1,6 @@
 // The instruction set of the Am29C116: words and named instructions, and the one table that says which there are.
+#![tactic(auto)]
+
 use alu::Mode;
 
 mod table; // table.rt: the 27 rows
@@ -8,13 +10,13 @@ mod fields; // fields.rt: what a row says of mode and fields
 
 ghost use Rattle.std.specs.Prelude.{◌≡◌, ◌<◌};
 ghost use Rattle.choice.specs.Checks.{refusal};
-ghost use Rattle.isa.specs.Fields.{mark_of, fieldA, fieldB};
+ghost use Rattle.isa.specs.Fields.{mark_of, field_a, field_b};
 ghost use Rattle.isa.specs.Table.{row_at, no_row, number_of};
-ghost use Rattle.isa.specs.Words.{ruleChecks, decodeOf, lookupOf, decodedTells, encodeOf, encodedTells, takesImmediate};
-ghost use Rattle.isa.specs.Decision.{RowIs, SameRow, takesWord, namedAs, Narrow, fillOf};
+ghost use Rattle.isa.specs.Words.{rule_checks, decode_of, lookup_of, decoded_tells, encode_of, encoded_tells, takes_immediate};
+ghost use Rattle.isa.specs.Decision.{RowIs, SameRow, takes_word, named_as, Narrow, fill_of};
 
 // The families of the data sheet's summary of mnemonics, in the order of document 01's list.
-#[derive(Drop)]
+#[derive(Clone, Copy)]
 pub enum Family {
     Tor1,
     Rotr1,
@@ -46,7 +48,7 @@ pub enum Family {
 }
 
 // A family's place in the instruction list: quadrant and modes, and the values of its fields as sets of bits.
-#[derive(Drop)]
+#[derive(Clone, Copy)]
 pub struct Row {
     pub family: Family,
     pub quadrant: u8,
@@ -61,7 +63,7 @@ pub struct Row {
 }
 
 // A named instruction. It can say what is not on the list, and is then refused.
-#[derive(Drop)]
+#[derive(Clone, Copy)]
 pub struct Named {
     pub family: Family,
     pub mode: Mode,
@@ -72,21 +74,21 @@ pub struct Named {
 
 // What a word says: the number of its refusal, or 0, and the instruction that its row and fields name, which means nothing where the word is
 // refused. Plain fields, because an enum that holds a struct goes through memory (docs/DECISIONS.md, 48).
-#[derive(Drop)]
+#[derive(Clone, Copy)]
 pub struct Lookup {
     pub refusal: u8,
     pub named: Named,
 }
 
 // A word's instruction, or the number of its refusal.
-#[derive(Drop)]
+#[derive(Clone, Copy)]
 pub enum Decoded {
     Accepted(Named),
     Refused(u8),
 }
 
 // A named instruction's word, or the number of its refusal.
-#[derive(Drop)]
+#[derive(Clone, Copy)]
 pub enum Encoded {
     Accepted(u16),
     Refused(u8),
@@ -107,7 +109,7 @@ fn row_number(word: u16) -> u8
 
 // The instruction of a family that has a word's fields.
 fn named_as(family: Family, word: u16) -> Named
-    ensures { result ≡ namedAs family word }
+    ensures { result ≡ named_as family word }
 {
     let mode = fields::mode_of(fields::mark_of(word));
     Named {
@@ -121,7 +123,7 @@ fn named_as(family: Family, word: u16) -> Named
 
 // What the row of a number refuses a word with: 8, 9, or 0 for nothing. Without such a row nothing is promised.
 fn row_refusal(number: u8, word: u16) -> u8
-    ensures { number < no_row → result ≡ refusal (ruleChecks (row_at number) (mark_of word) (fieldA word) (fieldB word)) }
+    ensures { number < no_row → result ≡ refusal (rule_checks (row_at number) (mark_of word) (field_a word) (field_b word)) }
 {
     fields::rule_refusal(
         table::rule_at(number),
@@ -133,7 +135,7 @@ fn row_refusal(number: u8, word: u16) -> u8
 
 // The refusal of a word, or 0, and its instruction. An unlisted word gets TOR1, the family of the row past the table, which means nothing.
 pub fn look_up(word: u16) -> Lookup
-    ensures { result ≡ lookupOf word }
+    ensures { result ≡ lookup_of word }
 {
     let number = row_number(word);
     if number::NONE <= number {
@@ -151,7 +153,7 @@ pub fn look_up(word: u16) -> Lookup
 
 // The instruction of a word.
 pub fn decode(word: u16) -> Decoded
-    ensures { decodedTells result ≡ decodeOf word }
+    ensures { decoded_tells result ≡ decode_of word }
 {
     let found = look_up(word);
     let named = found.named;
@@ -165,7 +167,7 @@ pub fn decode(word: u16) -> Decoded
 // The answer for the fields of a named instruction, by their row.
 fn fill(row: Row, mark: u8, a: u8, b: u8, c: u8) -> Encoded
     requires { (mark < 2) × Narrow row }
-    ensures { encodedTells result ≡ fillOf row mark a b c }
+    ensures { encoded_tells result ≡ fill_of row mark a b c }
 {
     if fields::taking(row, mark, a, b, c) {
         let refusal = fields::rule_refusal(row.rule, mark, a, b);
@@ -183,7 +185,7 @@ fn fill(row: Row, mark: u8, a: u8, b: u8, c: u8) -> Encoded
 
 // The word of a named instruction.
 pub fn encode(named: Named) -> Encoded
-    ensures { encodedTells result ≡ encodeOf named }
+    ensures { encoded_tells result ≡ encode_of named }
 {
     let family = named.family;
     let mode = named.mode;
@@ -195,7 +197,7 @@ pub fn encode(named: Named) -> Encoded
 
 // Whether a row takes a word.
 fn takes_word(row: Row, word: u16) -> bool
-    ensures { result ≡ takesWord row word }
+    ensures { result ≡ takes_word row word }
 {
     if row.quadrant == fields::quadrant_of(word) {
         fields::taking(
@@ -227,7 +229,7 @@ fn row_in_table(word: u16) -> usize
 
 // Whether a word is accepted and its instruction has an I operand, so that it takes two cycles.
 pub fn takes_immediate(word: u16) -> bool
-    ensures { result ≡ takesImmediate word }
+    ensures { result ≡ takes_immediate word }
 {
     let number = row_in_table(word);
     if number < number::NONE as usize {

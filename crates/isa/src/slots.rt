@@ -7,7 +7,7 @@ ghost use Rattle.choice.specs.Along.{Along, same};
 ghost use Rattle.choice.specs.Pick.{pick};
 ghost use Rattle.isa.specs.declared.Family.TheVariants.{Bonr};
 ghost use Rattle.isa.specs.Sets.{has, these};
-ghost use Rattle.isa.specs.Table.{no_row, number_of, destinations, yOrAcc, flags, twiceCodes};
+ghost use Rattle.isa.specs.Table.{no_row, number_of, destinations, y_or_acc, flags, twice_codes};
 ghost use Rattle.isa.specs.Slots.{with_c, row_of};
 ghost use Rattle.isa.specs.Decision.{slot_of, sharing};
 
@@ -294,7 +294,7 @@ fn is_destination(c: u8) -> bool
 
 // Field C of SHFTNR, PRTNR and SVSTNR.
 fn is_y_or_acc(c: u8) -> bool
-    ensures { Along same 32 (has yOrAcc) c result }
+    ensures { Along same 32 (has y_or_acc) c result }
 {
     match c {
         0..=1 => true,
@@ -316,7 +316,7 @@ fn is_flag(c: u8) -> bool
 
 // Field C of TEST: twice a code from 0 to 11.
 fn is_twice_code(c: u8) -> bool
-    ensures { Along same 32 (has twiceCodes) c result }
+    ensures { Along same 32 (has twice_codes) c result }
 {
     if 22 < c {
         return false;

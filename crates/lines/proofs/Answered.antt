@@ -10,7 +10,7 @@ use borrow.Author.Tests.{le-leb, lt-leb}
 use Rattle.choice.proofs.Picks.{picked, unpicked}
 use Rattle.lines.specs.declared.Line.{Line}
 use Rattle.lines.specs.declared.Line.TheVariants.{Made, NoRoom}
-use Rattle.lines.specs.Answers.{lineTells, Makes}
+use Rattle.lines.specs.Answers.{line_tells, Makes}
 
 module _ {text before : List ℕ} where
   pub no_room : length before < length text → Makes text NoRoom before before
@@ -26,28 +26,28 @@ module _ {text before : List ℕ} where
   }
 
 -- the same of a text said otherwise
-pub makes-as : {text other : List ℕ} {r : Line} {before after : List ℕ} → text ≡ other → Makes text r before after → Makes other r before after
-makes-as {r = r} {before = before} {after = after} e m = subst (λ (l : List ℕ). Makes l r before after) e m
+pub makes_as : {text other : List ℕ} {r : Line} {before after : List ℕ} → text ≡ other → Makes text r before after → Makes other r before after
+makes_as {r = r} {before = before} {after = after} e m = subst (λ (l : List ℕ). Makes l r before after) e m
 
 -- text that goes by a value, which is known
-pub makes-by : {A : Type 0} (text : A → List ℕ) {x y : A} {r : Line} {before after : List ℕ} → x ≡ y → Makes (text y) r before after → Makes (text x) r before after
-makes-by text e m = makes-as (sym (ap text e)) m
+pub makes_by : {A : Type 0} (text : A → List ℕ) {x y : A} {r : Line} {before after : List ℕ} → x ≡ y → Makes (text y) r before after → Makes (text x) r before after
+makes_by text e m = makes_as (sym (ap text e)) m
 
-pub nothing-made : (before : List ℕ) → Makes [] (Made 0) before before
-nothing-made before = made_all 0 before (omega arith) refl refl
+pub nothing_made : (before : List ℕ) → Makes [] (Made 0) before before
+nothing_made before = made_all 0 before (omega arith) refl refl
 
 -- what an answer tells fixes it
-line-one : (r s : Line) → lineTells r ≡ lineTells s → r ≡ s
-line-one (Made n) (Made m) e = ap Made (some-injective n m e)
-line-one (Made n) NoRoom e = absurd (some-ne-none n e)
-line-one NoRoom (Made m) e = absurd (some-ne-none m (sym e))
-line-one NoRoom NoRoom e = refl
+line_one : (r s : Line) → line_tells r ≡ line_tells s → r ≡ s
+line_one (Made n) (Made m) e = ap Made (some-injective n m e)
+line_one (Made n) NoRoom e = absurd (some-ne-none n e)
+line_one NoRoom (Made m) e = absurd (some-ne-none m (sym e))
+line_one NoRoom NoRoom e = refl
 
-pub makes-unique : (text before : List ℕ) (r s : Line) (after after' : List ℕ) → Makes text r before after → Makes text s before after'
+pub makes_unique : (text before : List ℕ) (r s : Line) (after after' : List ℕ) → Makes text r before after → Makes text s before after'
     → (r ≡ s) × (after ≡ after')
-makes-unique text before r s after after' f g = (line-one r s (f.told ∙ sym g.told), f.written ∙ sym g.written)
+makes_unique text before r s after after' f g = (line_one r s (f.told ∙ sym g.told), f.written ∙ sym g.written)
 
 -- a text that fits is made, all of it
-pub made-fits : (text : List ℕ) (r : Line) (before after : List ℕ) → Makes text r before after → length text ≤ length before
+pub made_fits : (text : List ℕ) (r : Line) (before after : List ℕ) → Makes text r before after → length text ≤ length before
     → (r ≡ Made (length text)) × (after ≡ text ++ drop (length text) before)
-made-fits text r before after m h = makes-unique text before r (Made (length text)) after (text ++ drop (length text) before) m (made_all (length text) _ h refl refl)
+made_fits text r before after m h = makes_unique text before r (Made (length text)) after (text ++ drop (length text) before) m (made_all (length text) _ h refl refl)

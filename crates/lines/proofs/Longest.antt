@@ -1,6 +1,6 @@
 -- How long a line can be.
--- The laws, in this order: `cycle-line-le`, `state-line-le`, `register-line-le`, `word-refused-line-le`, `last-line-le`, `words-line-le`,
--- `fault-line-le`, `remark-line-le`.
+-- The laws, in this order: `cycle_line_le`, `state_line_le`, `register_line_le`, `word_refused_line_le`, `last_line_le`, `words_line_le`,
+-- `fault_line_le`, `remark_line_le`.
 use Prim.{Unit}
 use mathlib.Core.Path.{◌≡◌, refl}
 use mathlib.Core.Bool.{Bool, true, false}
@@ -16,7 +16,7 @@ use Rattle.choice.proofs.Spans.{holds}
 use Rattle.text.specs.declared.Expected.{Expected}
 use Rattle.text.specs.declared.Expected.TheVariants.{Digit, Blank, Word as AWord, LineEnd}
 use Rattle.text.specs.declared.Fault.{Fault}
-use Rattle.text.specs.Lines.{wordsPerLine}
+use Rattle.text.specs.Lines.{words_per_line}
 use Rattle.machine.specs.declared.Waiting.{Waiting}
 use Rattle.machine.specs.declared.Waiting.TheVariants.{Nothing, Held}
 use Rattle.machine.specs.declared.Registers.{Registers}
@@ -26,137 +26,137 @@ use Rattle.lines.specs.declared.Program.{Program}
 use Rattle.lines.specs.declared.Program.TheVariants.{RunTrace, PackTrace, UnpackTrace, ListTrace, ReadList}
 use Rattle.lines.specs.declared.Remark.{Remark}
 use Rattle.lines.specs.declared.Remark.TheVariants.{NoInput, NoOutput, Waits, Marked, Unnamed, Refusal, Unread, LongLine}
-use Rattle.lines.specs.Lines.{line_of, cycleLine, stateLine, registerLine, wordRefusedLine, refusedLine, lastLine}
-use Rattle.lines.specs.Words.{afterWord, wordsText, wordsLine, expectedText, faultLine}
-use Rattle.lines.specs.Remarks.{name_of, Subject, whole, block, word, pins, Meaning, meanings, rowFor, meaningOf, placeText, refusalText, remarkText, remarkLine}
-use Rattle.lines.proofs.Spelled.{length-trimmed}
+use Rattle.lines.specs.Lines.{line_of, cycle_line, state_line, register_line, word_refused_line, refused_line, last_line}
+use Rattle.lines.specs.Words.{after_word, words_text, words_line, expected_text, fault_line}
+use Rattle.lines.specs.Remarks.{name_of, Subject, whole, block, word, pins, Meaning, meanings, row_for, meaning_of, place_text, refusal_text, remark_text, remark_line}
+use Rattle.lines.proofs.Spelled.{length_trimmed}
 
 -- a number has at most 20 digits, and one below 10,000 at most four
-trimmed-le : (digits : List ℕ) → length (trimmed digits) ≤ length digits
-trimmed-le [] = omega arith
-trimmed-le (d ∷ digits) = (length-trimmed d digits).1
+trimmed_le : (digits : List ℕ) → length (trimmed digits) ≤ length digits
+trimmed_le [] = omega arith
+trimmed_le (d ∷ digits) = (length_trimmed d digits).1
 
-decimal-le : (x : ℕ) → length (decimal x) ≤ 20
+decimal_le : (x : ℕ) → length (decimal x) ≤ 20
 unfolding decimal
-decimal-le x = trimmed-le (numeral 10 longest x)
+decimal_le x = trimmed_le (numeral 10 longest x)
 
-decimal-four : (x : ℕ) → x < 10000 → length (decimal x) ≤ 4
+decimal_four : (x : ℕ) → x < 10000 → length (decimal x) ≤ 4
 unfolding decimal
-decimal-four x h =
+decimal_four x h =
     let none : x / 10 / 10 / 10 / 10 ≡ 0 = omega arith in
-    rw none (trimmed-le (digit (x / 10 / 10 / 10 % 10) ∷ digit (x / 10 / 10 % 10) ∷ digit (x / 10 % 10) ∷ digit (x % 10) ∷ []))
+    rw none (trimmed_le (digit (x / 10 / 10 / 10 % 10) ∷ digit (x / 10 / 10 % 10) ∷ digit (x / 10 % 10) ∷ digit (x % 10) ∷ []))
 
-pub cycle-line-le : (number y mask ct t : ℕ) → number < 10000 → length (cycleLine number y mask ct t) ≤ 19
-unfolding hex cycleLine
-cycle-line-le number y mask ct t h = rw (length-append (decimal number)) (omega (arith, decimal-four number h))
+pub cycle_line_le : (number y mask ct t : ℕ) → number < 10000 → length (cycle_line number y mask ct t) ≤ 19
+unfolding hex cycle_line
+cycle_line_le number y mask ct t h = rw (length-append (decimal number)) (omega (arith, decimal_four number h))
 
-pub state-line-le : (r : Registers) → length (stateLine r) ≤ 32
-unfolding hex stateLine
-state-line-le r = by-waiting r.waiting
+pub state_line_le : (r : Registers) → length (state_line r) ≤ 32
+unfolding hex state_line
+state_line_le r = by-waiting r.waiting
   where
-    by-waiting : (w : Waiting) → length (stateLine (record { ram = r.ram; acc = r.acc; latch = r.latch; status = r.status; waiting = w })) ≤ 32
+    by-waiting : (w : Waiting) → length (state_line (record { ram = r.ram; acc = r.acc; latch = r.latch; status = r.status; waiting = w })) ≤ 32
     by-waiting Nothing = omega arith
     by-waiting (Held w) = omega arith
 
-pub register-line-le : (number value : ℕ) → length (registerLine number value) ≤ 9
-unfolding hex registerLine
-register-line-le number value = by-test (eqb value 0)
+pub register_line_le : (number value : ℕ) → length (register_line number value) ≤ 9
+unfolding hex register_line
+register_line_le number value = by-test (eqb value 0)
   where
     by-test : (b : Bool) → length (pick b [] (line_of (114 ∷ numeral 10 2 number) (hex 4 value ∷ []))) ≤ 9
     by-test true = omega arith
     by-test false = omega arith
 
-pub word-refused-line-le : (number : ℕ) → length (wordRefusedLine number) ≤ 29
-unfolding wordRefusedLine
-word-refused-line-le number = rw (length-append (decimal number)) (omega (arith, decimal-le number))
+pub word_refused_line_le : (number : ℕ) → length (word_refused_line number) ≤ 29
+unfolding word_refused_line
+word_refused_line_le number = rw (length-append (decimal number)) (omega (arith, decimal_le number))
 
-pub refused-line-le : (number index : ℕ) → length (refusedLine number index) ≤ 53
-unfolding refusedLine
-refused-line-le number index = rw (length-append (decimal number), length-append (decimal index)) (omega (arith, decimal-le number, decimal-le index))
+pub refused_line_le : (number index : ℕ) → length (refused_line number index) ≤ 53
+unfolding refused_line
+refused_line_le number index = rw (length-append (decimal number), length-append (decimal index)) (omega (arith, decimal_le number, decimal_le index))
 
-pub last-line-le : (e : Ending) (accepted : ℕ) → length (lastLine e accepted) ≤ 53
-unfolding lastLine
-last-line-le Done accepted = rw (length-append (decimal accepted)) (omega (arith, decimal-le accepted))
-last-line-le Stopped accepted = rw (length-append (decimal accepted)) (omega (arith, decimal-le accepted))
-last-line-le (Refused number index) accepted = refused-line-le number index
+pub last_line_le : (e : Ending) (accepted : ℕ) → length (last_line e accepted) ≤ 53
+unfolding last_line
+last_line_le Done accepted = rw (length-append (decimal accepted)) (omega (arith, decimal_le accepted))
+last_line_le Stopped accepted = rw (length-append (decimal accepted)) (omega (arith, decimal_le accepted))
+last_line_le (Refused number index) accepted = refused_line_le number index
 
 -- a word takes five bytes of a line of words
-words-text-long : (words : List ℕ) → length (wordsText words) ≡ 5 * length words
+words_text_long : (words : List ℕ) → length (words_text words) ≡ 5 * length words
 unfolding hex
-words-text-long [] = refl
-words-text-long (x ∷ words) = rw (length-append (hex 4 x ++ afterWord words ∷ []) (wordsText words)) (omega (arith, words-text-long words))
+words_text_long [] = refl
+words_text_long (x ∷ words) = rw (length-append (hex 4 x ++ after_word words ∷ []) (words_text words)) (omega (arith, words_text_long words))
 
-pub words-line-le : (words : List ℕ) (i : ℕ) → length (wordsLine words i) ≤ 15
-unfolding wordsLine
-words-line-le words i = by-test (ltb i (length words / wordsPerLine))
+pub words_line_le : (words : List ℕ) (i : ℕ) → length (words_line words i) ≤ 15
+unfolding words_line
+words_line_le words i = by-test (ltb i (length words / words_per_line))
   where
     line : List ℕ
-    line = take wordsPerLine (drop (wordsPerLine * i) words)
+    line = take words_per_line (drop (words_per_line * i) words)
 
-    by-test : (b : Bool) → length (pick b (wordsText line) []) ≤ 15
-    by-test true = rw (words-text-long line) (simp length-take (omega arith))
+    by-test : (b : Bool) → length (pick b (words_text line) []) ≤ 15
+    by-test true = rw (words_text_long line) (simp length-take (omega arith))
     by-test false = omega arith
 
-expected-le : (e : Expected) → length (expectedText e) ≤ 20
-expected-le Digit = omega arith
-expected-le Blank = omega arith
-expected-le AWord = omega arith
-expected-le LineEnd = omega arith
+expected_le : (e : Expected) → length (expected_text e) ≤ 20
+expected_le Digit = omega arith
+expected_le Blank = omega arith
+expected_le AWord = omega arith
+expected_le LineEnd = omega arith
 
-pub fault-line-le : (f : Fault) → length (faultLine f) ≤ 85
-unfolding faultLine
-fault-line-le f =
+pub fault_line_le : (f : Fault) → length (fault_line f) ≤ 85
+unfolding fault_line
+fault_line_le f =
     rw (length-append (decimal f.line ++ 44 ∷ []), length-append (decimal f.line), length-append (decimal f.column ++ 58 ∷ []), length-append (decimal f.column))
-    (omega (arith, decimal-le f.line, decimal-le f.column, expected-le f.expected))
+    (omega (arith, decimal_le f.line, decimal_le f.column, expected_le f.expected))
 
-name-le : (p : Program) → length (name_of p) ≤ 11
-name-le RunTrace = omega arith
-name-le PackTrace = omega arith
-name-le UnpackTrace = omega arith
-name-le ListTrace = omega arith
-name-le ReadList = omega arith
+name_le : (p : Program) → length (name_of p) ≤ 11
+name_le RunTrace = omega arith
+name_le PackTrace = omega arith
+name_le UnpackTrace = omega arith
+name_le ListTrace = omega arith
+name_le ReadList = omega arith
 
 -- a reason of the table, whatever the number
-why-by : (b : Bool) (m : Meaning) (rest : Meaning) → length m.why ≤ 47 → length rest.why ≤ 47 → length (pick b m rest).why ≤ 47
-why-by true m rest p q = p
-why-by false m rest p q = q
+why_by : (b : Bool) (m : Meaning) (rest : Meaning) → length m.why ≤ 47 → length rest.why ≤ 47 → length (pick b m rest).why ≤ 47
+why_by true m rest p q = p
+why_by false m rest p q = q
 
 abbrev Short : List Meaning → Type 0
 Short [] = Unit {0}
 Short (m ∷ ms) = T (leb (length m.why) 47) × Short ms
 
-row-le : (k : ℕ) (ms : List Meaning) → Short ms → length (rowFor k ms).why ≤ 47
-row-le k [] h = omega arith
-row-le k (m ∷ ms) h = why-by (eqb k m.number) m (rowFor k ms) (leb-true (length m.why) 47 (holds _ h.0)) (row-le k ms h.1)
+row_le : (k : ℕ) (ms : List Meaning) → Short ms → length (row_for k ms).why ≤ 47
+row_le k [] h = omega arith
+row_le k (m ∷ ms) h = why_by (eqb k m.number) m (row_for k ms) (leb-true (length m.why) 47 (holds _ h.0)) (row_le k ms h.1)
 
-why-le : (k : ℕ) → length (meaningOf k).why ≤ 47
-unfolding meaningOf
-why-le k = row-le k meanings (tt, (tt, (tt, (tt, (tt, (tt, (tt, (tt, (tt, (tt, (tt, (tt, (tt, (tt, tt))))))))))))))
+why_le : (k : ℕ) → length (meaning_of k).why ≤ 47
+unfolding meaning_of
+why_le k = row_le k meanings (tt, (tt, (tt, (tt, (tt, (tt, (tt, (tt, (tt, (tt, (tt, (tt, (tt, (tt, tt))))))))))))))
 
-place-le : (s : Subject) (i w p : ℕ) → length (placeText s i w p) ≤ 45
+place_le : (s : Subject) (i w p : ℕ) → length (place_text s i w p) ≤ 45
 unfolding hex
-place-le whole i w p = omega arith
-place-le block i w p = rw (length-append (decimal i ++ 58 ∷ []), length-append (decimal i)) (omega (arith, decimal-le i))
-place-le word i w p = rw (length-append (decimal i ++ 58 ∷ []), length-append (decimal i)) (omega (arith, decimal-le i))
-place-le pins i w p = rw (length-append (decimal i ++ 58 ∷ []), length-append (decimal i)) (omega (arith, decimal-le i))
+place_le whole i w p = omega arith
+place_le block i w p = rw (length-append (decimal i ++ 58 ∷ []), length-append (decimal i)) (omega (arith, decimal_le i))
+place_le word i w p = rw (length-append (decimal i ++ 58 ∷ []), length-append (decimal i)) (omega (arith, decimal_le i))
+place_le pins i w p = rw (length-append (decimal i ++ 58 ∷ []), length-append (decimal i)) (omega (arith, decimal_le i))
 
-refusal-le : (k i w p : ℕ) → length (refusalText k i w p) ≤ 122
-refusal-le k i w p =
-    let place = placeText (meaningOf k).subject i w p in
-    rw (length-append (decimal k ++ 32 ∷ []), length-append (decimal k), length-append place, length-append (meaningOf k).why)
-    (omega (arith, decimal-le k, place-le (meaningOf k).subject i w p, why-le k))
+refusal_le : (k i w p : ℕ) → length (refusal_text k i w p) ≤ 122
+refusal_le k i w p =
+    let place = place_text (meaning_of k).subject i w p in
+    rw (length-append (decimal k ++ 32 ∷ []), length-append (decimal k), length-append place, length-append (meaning_of k).why)
+    (omega (arith, decimal_le k, place_le (meaning_of k).subject i w p, why_le k))
 
-remark-le : (r : Remark) → length (remarkText r) ≤ 122
-unfolding remarkText hex
-remark-le NoInput = omega arith
-remark-le NoOutput = omega arith
-remark-le (Waits w) = omega arith
-remark-le Marked = omega arith
-remark-le (Unnamed n) = rw (length-append (decimal n)) (omega (arith, decimal-le n))
-remark-le (Refusal k i w p) = refusal-le k i w p
-remark-le (Unread n) = rw (length-append (decimal n)) (omega (arith, decimal-le n))
-remark-le LongLine = omega arith
+remark_le : (r : Remark) → length (remark_text r) ≤ 122
+unfolding remark_text hex
+remark_le NoInput = omega arith
+remark_le NoOutput = omega arith
+remark_le (Waits w) = omega arith
+remark_le Marked = omega arith
+remark_le (Unnamed n) = rw (length-append (decimal n)) (omega (arith, decimal_le n))
+remark_le (Refusal k i w p) = refusal_le k i w p
+remark_le (Unread n) = rw (length-append (decimal n)) (omega (arith, decimal_le n))
+remark_le LongLine = omega arith
 
-pub remark-line-le : (p : Program) (r : Remark) → length (remarkLine p r) ≤ 135
-unfolding remarkLine
-remark-line-le p r = rw (length-append (name_of p ++ ascii ": "), length-append (name_of p)) (omega (arith, name-le p, remark-le r))
+pub remark_line_le : (p : Program) (r : Remark) → length (remark_line p r) ≤ 135
+unfolding remark_line
+remark_line_le p r = rw (length-append (name_of p ++ ascii ": "), length-append (name_of p)) (omega (arith, name_le p, remark_le r))

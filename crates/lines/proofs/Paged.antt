@@ -8,8 +8,8 @@ use native.Mathlib.Omega.{arith}
 use lib.ListN.{length, get_or, get_or-append}
 use lib.Seq.{get_or-append-add}
 use Rattle.run.specs.declared.Ran.{Ran}
-use Rattle.lines.specs.Lines.{stateLine, registerLine, lastLine}
-use Rattle.lines.specs.Pages.{reportLine, lines_from, registerCount, page_of}
+use Rattle.lines.specs.Lines.{state_line, register_line, last_line}
+use Rattle.lines.specs.Pages.{report_line, lines_from, register_count, page_of}
 
 module _ (line : ℕ → List ℕ) where
   pub length-lines : (i n : ℕ) → length (lines_from line i n) ≡ n
@@ -35,33 +35,33 @@ module _ (line : ℕ → List ℕ) where
         ap (λ (j : ℕ). get_or (lines_from line 0 n ++ others) j []) f ∙ get_or-append-add (lines_from line 0 n) others k []
 
 module _ (r : Ran) (reports : List ℕ) where
-  abbrev registerAt : ℕ → List ℕ
-  registerAt k = registerLine k (get_or r.machine.registers.ram k 0)
+  abbrev register_at : ℕ → List ℕ
+  register_at k = register_line k (get_or r.machine.registers.ram k 0)
 
   abbrev end : List (List ℕ)
-  end = lastLine r.ending r.accepted ∷ []
+  end = last_line r.ending r.accepted ∷ []
 
   abbrev after : List (List ℕ)
-  after = stateLine r.machine.registers ∷ (lines_from registerAt 0 registerCount ++ end)
+  after = state_line r.machine.registers ∷ (lines_from register_at 0 register_count ++ end)
 
-  pub page-cycle : (i : ℕ) → i < r.accepted → get_or (page_of r reports) i [] ≡ reportLine reports i
+  pub page-cycle : (i : ℕ) → i < r.accepted → get_or (page_of r reports) i [] ≡ report_line reports i
   unfolding page_of
-  page-cycle i h = first-lines (reportLine reports) r.accepted after i h
+  page-cycle i h = first-lines (report_line reports) r.accepted after i h
 
   past-cycles : (i k : ℕ) → i ≡ r.accepted + k → get_or (page_of r reports) i [] ≡ get_or after k []
   unfolding page_of
-  past-cycles i k e = other-lines (reportLine reports) r.accepted after i k e
+  past-cycles i k e = other-lines (report_line reports) r.accepted after i k e
 
-  pub page-state : (i : ℕ) → i ≡ r.accepted → get_or (page_of r reports) i [] ≡ stateLine r.machine.registers
+  pub page-state : (i : ℕ) → i ≡ r.accepted → get_or (page_of r reports) i [] ≡ state_line r.machine.registers
   page-state i e = past-cycles i 0 (omega arith)
 
-  pub page-register : (i k : ℕ) → i ≡ r.accepted + suc k → k < registerCount → get_or (page_of r reports) i [] ≡ registerAt k
-  page-register i k e h = past-cycles i (suc k) e ∙ first-lines registerAt registerCount end k h
+  pub page-register : (i k : ℕ) → i ≡ r.accepted + suc k → k < register_count → get_or (page_of r reports) i [] ≡ register_at k
+  page-register i k e h = past-cycles i (suc k) e ∙ first-lines register_at register_count end k h
 
-  past-registers : (i k : ℕ) → i ≡ r.accepted + suc (registerCount + k) → get_or (page_of r reports) i [] ≡ get_or end k []
-  past-registers i k e = past-cycles i (suc (registerCount + k)) e ∙ other-lines registerAt registerCount end (registerCount + k) k refl
+  past-registers : (i k : ℕ) → i ≡ r.accepted + suc (register_count + k) → get_or (page_of r reports) i [] ≡ get_or end k []
+  past-registers i k e = past-cycles i (suc (register_count + k)) e ∙ other-lines register_at register_count end (register_count + k) k refl
 
-  pub page-last : (i : ℕ) → i ≡ r.accepted + 33 → get_or (page_of r reports) i [] ≡ lastLine r.ending r.accepted
+  pub page-last : (i : ℕ) → i ≡ r.accepted + 33 → get_or (page_of r reports) i [] ≡ last_line r.ending r.accepted
   page-last i e = past-registers i 0 (omega arith)
 
   pub page-past : (i k : ℕ) → i ≡ r.accepted + (34 + k) → get_or (page_of r reports) i [] ≡ []

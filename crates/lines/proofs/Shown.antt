@@ -8,8 +8,8 @@ use Rattle.machine.specs.declared.Waiting.TheVariants.{Nothing}
 use Rattle.machine.specs.declared.Registers.{Registers}
 use Rattle.run.specs.declared.Ending.TheVariants.{Done, Refused}
 use Rattle.run.specs.declared.Ran.{Ran}
-use Rattle.lines.specs.Lines.{cycleLine, stateLine, registerLine, refusedLine, lastLine}
-use Rattle.lines.specs.Pages.{reportLine, lines_from, page_of}
+use Rattle.lines.specs.Lines.{cycle_line, state_line, register_line, refused_line, last_line}
+use Rattle.lines.specs.Pages.{report_line, lines_from, page_of}
 use Rattle.lines.proofs.Paged.{length-lines}
 
 -- ACC 1200, status 03, and else 0
@@ -17,34 +17,34 @@ abbrev ended : Registers
 ended = record { ram = replicate 32 0; acc = 0x1200; latch = 0; status = 3; waiting = Nothing }
 
 -- "0 0000 0000 0 -", "1 12FF FFFF - 0" and "2 0000 00FF - 3"
-pub cycle-lines :
-    (cycleLine 0 0 0 0 16 ≡ 48 ∷ 32 ∷ 48 ∷ 48 ∷ 48 ∷ 48 ∷ 32 ∷ 48 ∷ 48 ∷ 48 ∷ 48 ∷ 32 ∷ 48 ∷ 32 ∷ 45 ∷ 10 ∷ [])
-    × (cycleLine 1 0x12FF 0xFFFF 2 0 ≡ 49 ∷ 32 ∷ 49 ∷ 50 ∷ 70 ∷ 70 ∷ 32 ∷ 70 ∷ 70 ∷ 70 ∷ 70 ∷ 32 ∷ 45 ∷ 32 ∷ 48 ∷ 10 ∷ [])
-    × (cycleLine 2 0 0x00FF 2 3 ≡ 50 ∷ 32 ∷ 48 ∷ 48 ∷ 48 ∷ 48 ∷ 32 ∷ 48 ∷ 48 ∷ 70 ∷ 70 ∷ 32 ∷ 45 ∷ 32 ∷ 51 ∷ 10 ∷ [])
-unfolding hex decimal cycleLine
-cycle-lines = (refl, refl, refl)
+pub cycle_lines :
+    (cycle_line 0 0 0 0 16 ≡ 48 ∷ 32 ∷ 48 ∷ 48 ∷ 48 ∷ 48 ∷ 32 ∷ 48 ∷ 48 ∷ 48 ∷ 48 ∷ 32 ∷ 48 ∷ 32 ∷ 45 ∷ 10 ∷ [])
+    × (cycle_line 1 0x12FF 0xFFFF 2 0 ≡ 49 ∷ 32 ∷ 49 ∷ 50 ∷ 70 ∷ 70 ∷ 32 ∷ 70 ∷ 70 ∷ 70 ∷ 70 ∷ 32 ∷ 45 ∷ 32 ∷ 48 ∷ 10 ∷ [])
+    × (cycle_line 2 0 0x00FF 2 3 ≡ 50 ∷ 32 ∷ 48 ∷ 48 ∷ 48 ∷ 48 ∷ 32 ∷ 48 ∷ 48 ∷ 70 ∷ 70 ∷ 32 ∷ 45 ∷ 32 ∷ 51 ∷ 10 ∷ [])
+unfolding hex decimal cycle_line
+cycle_lines = (refl, refl, refl)
 
 -- "acc 1200 d 0000 st 03 wait -"
-pub state-line :
-    stateLine ended
+pub state_line_lem :
+    state_line ended
     ≡ 97 ∷ 99 ∷ 99 ∷ 32 ∷ 49 ∷ 50 ∷ 48 ∷ 48 ∷ 32 ∷ 100 ∷ 32 ∷ 48 ∷ 48 ∷ 48 ∷ 48 ∷ 32 ∷ 115 ∷ 116 ∷ 32 ∷ 48 ∷ 51 ∷ 32 ∷ 119 ∷ 97 ∷ 105 ∷ 116 ∷ 32 ∷ 45 ∷ 10 ∷ []
-unfolding hex stateLine
-state-line = refl
+unfolding hex state_line
+state_line_lem = refl
 
 -- "r05 0001", and nothing for a register that is 0
-pub register-lines : (registerLine 5 1 ≡ 114 ∷ 48 ∷ 53 ∷ 32 ∷ 48 ∷ 48 ∷ 48 ∷ 49 ∷ 10 ∷ []) × (registerLine 5 0 ≡ [])
-unfolding hex registerLine
-register-lines = (refl, refl)
+pub register_lines : (register_line 5 1 ≡ 114 ∷ 48 ∷ 53 ∷ 32 ∷ 48 ∷ 48 ∷ 48 ∷ 49 ∷ 10 ∷ []) × (register_line 5 0 ≡ [])
+unfolding hex register_line
+register_lines = (refl, refl)
 
 -- "done 3", and "refused 10 at 4095" with both numbers in decimal
-pub last-lines :
-    (lastLine Done 3 ≡ 100 ∷ 111 ∷ 110 ∷ 101 ∷ 32 ∷ 51 ∷ 10 ∷ [])
-    × (lastLine (Refused 10 4095) 4095
+pub last_lines :
+    (last_line Done 3 ≡ 100 ∷ 111 ∷ 110 ∷ 101 ∷ 32 ∷ 51 ∷ 10 ∷ [])
+    × (last_line (Refused 10 4095) 4095
     ≡ 114 ∷ 101 ∷ 102 ∷ 117 ∷ 115 ∷ 101 ∷ 100 ∷ 32 ∷ 49 ∷ 48 ∷ 32 ∷ 97 ∷ 116 ∷ 32 ∷ 52 ∷ 48 ∷ 57 ∷ 53 ∷ 10 ∷ [])
-unfolding decimal refusedLine lastLine
-last-lines = (refl, refl)
+unfolding decimal refused_line last_line
+last_lines = (refl, refl)
 
 -- a page has the accepted cycles' lines and 34 more
-pub page-length : (r : Ran) (reports : List ℕ) → length (page_of r reports) ≡ r.accepted + 34
+pub page_length : (r : Ran) (reports : List ℕ) → length (page_of r reports) ≡ r.accepted + 34
 unfolding page_of
-page-length r reports = length-append (lines_from (reportLine reports) 0 r.accepted) _ ∙ ap (λ (n : ℕ). n + 34) (length-lines (reportLine reports) 0 r.accepted)
+page_length r reports = length-append (lines_from (report_line reports) 0 r.accepted) _ ∙ ap (λ (n : ℕ). n + 34) (length-lines (report_line reports) 0 r.accepted)

@@ -12,15 +12,15 @@ use borrow.Author.Tests.{eq-eqb, ne_eqb}
 use Rattle.choice.specs.Pick.{pick}
 use Rattle.choice.specs.Text.{digit, numeral, trimmed}
 
-pub length-numeral : (base n x : ℕ) → length (numeral base n x) ≡ n
-length-numeral base zero x = refl
-length-numeral base (suc n) x = length-append (numeral base n (x / base)) (digit (x % base) ∷ []) ∙ omega (arith, length-numeral base n (x / base))
+pub length_numeral : (base n x : ℕ) → length (numeral base n x) ≡ n
+length_numeral base zero x = refl
+length_numeral base (suc n) x = length-append (numeral base n (x / base)) (digit (x % base) ∷ []) ∙ omega (arith, length_numeral base n (x / base))
 
 -- a turn of the loop that spells a number
-pub spell-step : (base i rest d : ℕ) (part : List ℕ) → 0 < i → i ≤ length part → d ≡ digit (rest % base)
+pub spell_step : (base i rest d : ℕ) (part : List ℕ) → 0 < i → i ≤ length part → d ≡ digit (rest % base)
     → numeral base (i - 1) (rest / base) ++ drop (i - 1) (set part (i - 1) d) ≡ numeral base i rest ++ drop i part
-spell-step base zero rest d part p h e = absurd (omega arith)
-spell-step base (suc n) rest d part p h e =
+spell_step base zero rest d part p h e = absurd (omega arith)
+spell_step base (suc n) rest d part p h e =
     let z : suc n - 1 ≡ n = omega arith in
     let q : n < length part = omega arith in
     let cut : drop n (set part n d) ≡ d ∷ drop (suc n) part =
@@ -54,9 +54,9 @@ copy_done text part i e h =
     rw (take_all i part g, drop_of_length-le text h, append-nil)
 
 -- a decimal number has 1 to 20 digits
-pub length-trimmed : (d : ℕ) (digits : List ℕ) → (1 ≤ length (trimmed (d ∷ digits))) × (length (trimmed (d ∷ digits)) ≤ length (d ∷ digits))
-length-trimmed d [] = (omega arith, omega arith)
-length-trimmed d (e ∷ digits) = by-test (eqb d 48) (length-trimmed e digits)
+pub length_trimmed : (d : ℕ) (digits : List ℕ) → (1 ≤ length (trimmed (d ∷ digits))) × (length (trimmed (d ∷ digits)) ≤ length (d ∷ digits))
+length_trimmed d [] = (omega arith, omega arith)
+length_trimmed d (e ∷ digits) = by-test (eqb d 48) (length_trimmed e digits)
   where
     by-test : (b : Bool) → (1 ≤ length (trimmed (e ∷ digits))) × (length (trimmed (e ∷ digits)) ≤ suc (length digits))
         → (1 ≤ length (pick b (trimmed (e ∷ digits)) (d ∷ e ∷ digits))) × (length (pick b (trimmed (e ∷ digits)) (d ∷ e ∷ digits)) ≤ suc (suc (length digits)))

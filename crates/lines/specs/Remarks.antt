@@ -51,39 +51,39 @@ meanings =
     ∷ []
 
 -- the row of a number; a number that is not in the table has no reason
-abbrev pub rowFor : ℕ → List Meaning → Meaning
-rowFor k [] = means k whole []
-rowFor k (m ∷ ms) = pick (eqb k m.number) m (rowFor k ms)
+abbrev pub row_for : ℕ → List Meaning → Meaning
+row_for k [] = means k whole []
+row_for k (m ∷ ms) = pick (eqb k m.number) m (row_for k ms)
 
-unfoldable pub meaningOf : ℕ → Meaning
-meaningOf k = rowFor k meanings
+unfoldable pub meaning_of : ℕ → Meaning
+meaning_of k = row_for k meanings
 
 -- where it is: a block or a cycle by its index, and the cycle's word or pins in hex
-abbrev pub placeText : Subject → ℕ → ℕ → ℕ → List ℕ
-placeText whole index w p = ascii "as a whole: "
-placeText block index w p = (ascii "at block " ++ (decimal index ++ 58 ∷ [])) ++ ascii " "
-placeText word index w p = (ascii "at cycle " ++ (decimal index ++ 58 ∷ [])) ++ (ascii " the word " ++ (hex 4 w ++ 32 ∷ []))
-placeText pins index w p = (ascii "at cycle " ++ (decimal index ++ 58 ∷ [])) ++ (ascii " the pins " ++ (hex 4 p ++ 32 ∷ []))
+abbrev pub place_text : Subject → ℕ → ℕ → ℕ → List ℕ
+place_text whole index w p = ascii "as a whole: "
+place_text block index w p = (ascii "at block " ++ (decimal index ++ 58 ∷ [])) ++ ascii " "
+place_text word index w p = (ascii "at cycle " ++ (decimal index ++ 58 ∷ [])) ++ (ascii " the word " ++ (hex 4 w ++ 32 ∷ []))
+place_text pins index w p = (ascii "at cycle " ++ (decimal index ++ 58 ∷ [])) ++ (ascii " the pins " ++ (hex 4 p ++ 32 ∷ []))
 
 -- where, why, and the line's end
-abbrev pub reasonText : Meaning → ℕ → ℕ → ℕ → List ℕ
-reasonText m index w p = placeText m.subject index w p ++ (m.why ++ newline ∷ [])
+abbrev pub reason_text : Meaning → ℕ → ℕ → ℕ → List ℕ
+reason_text m index w p = place_text m.subject index w p ++ (m.why ++ newline ∷ [])
 
 -- "refused " with the number, where and why
-abbrev pub refusalText : ℕ → ℕ → ℕ → ℕ → List ℕ
-refusalText k index w p = (ascii "refused " ++ (decimal k ++ 32 ∷ [])) ++ reasonText (meaningOf k) index w p
+abbrev pub refusal_text : ℕ → ℕ → ℕ → ℕ → List ℕ
+refusal_text k index w p = (ascii "refused " ++ (decimal k ++ 32 ∷ [])) ++ reason_text (meaning_of k) index w p
 
 -- what is said, and the line's end
-unfoldable pub remarkText : Remark → List ℕ
-remarkText NoInput = ascii "standard input cannot be read" ++ newline ∷ []
-remarkText NoOutput = ascii "standard output cannot be written" ++ newline ∷ []
-remarkText (Waits w) = ascii "note: the run ends waiting for the operand of " ++ (hex 4 w ++ newline ∷ [])
-remarkText Marked = ascii "the text begins with a byte order mark" ++ newline ∷ []
-remarkText (Unnamed count) = ascii "more lines that cannot be read: " ++ (decimal count ++ newline ∷ [])
-remarkText (Refusal k index w p) = refusalText k index w p
-remarkText (Unread count) = ascii "lines that cannot be read: " ++ (decimal count ++ newline ∷ [])
-remarkText LongLine = ascii "a line is longer than 4,095 bytes" ++ newline ∷ []
+unfoldable pub remark_text : Remark → List ℕ
+remark_text NoInput = ascii "standard input cannot be read" ++ newline ∷ []
+remark_text NoOutput = ascii "standard output cannot be written" ++ newline ∷ []
+remark_text (Waits w) = ascii "note: the run ends waiting for the operand of " ++ (hex 4 w ++ newline ∷ [])
+remark_text Marked = ascii "the text begins with a byte order mark" ++ newline ∷ []
+remark_text (Unnamed count) = ascii "more lines that cannot be read: " ++ (decimal count ++ newline ∷ [])
+remark_text (Refusal k index w p) = refusal_text k index w p
+remark_text (Unread count) = ascii "lines that cannot be read: " ++ (decimal count ++ newline ∷ [])
+remark_text LongLine = ascii "a line is longer than 4,095 bytes" ++ newline ∷ []
 
 -- the program's name, ": " and what it says
-unfoldable pub remarkLine : Program → Remark → List ℕ
-remarkLine program remark = (name_of program ++ ascii ": ") ++ remarkText remark
+unfoldable pub remark_line : Program → Remark → List ℕ
+remark_line program remark = (name_of program ++ ascii ": ") ++ remark_text remark

@@ -1,6 +1,6 @@
 // Numbers into digits.
 ghost use Rattle.std.specs.Prelude.{◌≡◌, ◌+◌, ◌≤◌, ◌<◌, length, drop};
-ghost use Rattle.choice.specs.Text.{digit, numeral, trimmed, digitOrNone};
+ghost use Rattle.choice.specs.Text.{digit, numeral, trimmed, digit_or_none};
 
 fn digit_of(d: u8) -> u8
     requires { d < 16 }
@@ -12,7 +12,7 @@ fn digit_of(d: u8) -> u8
 // A digit below a limit, or "-".
 pub(crate) fn digit_or_none(x: u16, limit: u16) -> u8
     requires { limit ≤ 16 }
-    ensures { result ≡ digitOrNone limit x }
+    ensures { result ≡ digit_or_none limit x }
 {
     if x < limit { digit_of(x as u8) } else { b'-' }
 }

@@ -1,6 +1,6 @@
 // The fields of a line, one after another, each with the byte that ends it.
 ghost use Rattle.std.specs.Prelude.{◌≡◌, [], ◌∷◌, ◌++◌, ◌+◌, ◌≤◌, length};
-ghost use Rattle.choice.specs.Text.{numeral, hex, decimal, digitOrNone};
+ghost use Rattle.choice.specs.Text.{numeral, hex, decimal, digit_or_none};
 ghost use Rattle.lines.specs.Answers.{Makes};
 ghost use Rattle.lines.specs.Putting.{Puts};
 
@@ -69,7 +69,7 @@ pub(crate) fn put_decimal(x: u64, last: u8, at: usize, line: &mut [u8]) -> usize
 // A digit below a limit, or "-".
 pub(crate) fn put_digit(x: u16, limit: u16, last: u8, at: usize, line: &mut [u8]) -> usize
     requires { (at + 2 ≤ length line.old) × (limit ≤ 16) }
-    ensures { Puts (digitOrNone limit x ∷ last ∷ []) at result line.old line.new }
+    ensures { Puts (digit_or_none limit x ∷ last ∷ []) at result line.old line.new }
 {
     line[at] = digits::digit_or_none(x, limit);
     line[at + 1] = last;

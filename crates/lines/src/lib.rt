@@ -1,5 +1,7 @@
 // The lines that are printed, of a run and of a trace, and what is said to a person, as text in ASCII. A line is made in full before any of
 // it is handed over.
+#![tactic(auto)]
+
 mod digits; // digits.rt: numbers into digits
 mod fields; // fields.rt: the fields of a line, one after another
 mod page; // page.rt: which line comes when
@@ -8,7 +10,7 @@ mod words; // words.rt: a trace as text
 
 ghost use Rattle.std.specs.Prelude.{[], ◌∷◌, ◌++◌, ◌+◌, ◌≤◌, length};
 ghost use Rattle.choice.specs.Text.{newline, decimal};
-ghost use Rattle.lines.specs.Lines.{cycleLine, waitingText, stateLine, registerLine, wordRefusedLine, refusedLine, lastLine};
+ghost use Rattle.lines.specs.Lines.{cycle_line, waiting_text, state_line, register_line, word_refused_line, refused_line, last_line};
 ghost use Rattle.lines.specs.Putting.{Puts};
 ghost use Rattle.lines.specs.Answers.{Makes};
 
@@ -22,14 +24,14 @@ use run::Ending;
 pub use words::{FAULT_BYTES, WORDS_BYTES, fault_line, words_line};
 
 // How many bytes a line has, or that the slice is too short for it.
-#[derive(Drop)]
+#[derive(Clone, Copy)]
 pub enum Line {
     Made(usize),
     NoRoom,
 }
 
 // The programs that are named.
-#[derive(Drop)]
+#[derive(Clone, Copy)]
 pub enum Program {
     RunTrace,
     PackTrace,
@@ -41,7 +43,7 @@ pub enum Program {
 // What there is to say: input or output failed, a run ends with this word waiting, a text begins with a byte order mark, this many of its
 // bad lines are not named, a refusal: its number, the index of its block or cycle, and that cycle's instruction word and pins; this many lines of
 // a listing cannot be read, or one is too long.
-#[derive(Drop)]
+#[derive(Clone, Copy)]
 pub enum Remark {
     NoInput,
     NoOutput,
@@ -58,7 +60,7 @@ const LONGEST: usize = 64;
 
 // An accepted cycle: its number and the four words of its report.
 pub fn cycle_line(number: u64, y: u16, mask: u16, ct: u16, t: u16, out: &mut [u8]) -> Line
-    ensures { Makes (cycleLine number y mask ct t) result out.old out.new }
+    ensures { Makes (cycle_line number y mask ct t) result out.old out.new }
 {
     let mut line = [0u8; LONGEST];
     let first = fields::put_decimal(number, b' ', 0, &mut line);
@@ -72,7 +74,7 @@ pub fn cycle_line(number: u64, y: u16, mask: u16, ct: u16, t: u16, out: &mut [u8
 // The word that waits, or "-", and the line's end.
 fn put_waiting(waiting: Waiting, at: usize, line: &mut [u8]) -> usize
     requires { at + 5 ≤ length line.old }
-    ensures { Puts (waitingText waiting ++ newline ∷ []) at result line.old line.new × (result ≤ at + 5) }
+    ensures { Puts (waiting_text waiting ++ newline ∷ []) at result line.old line.new × (result ≤ at + 5) }
 {
     match waiting {
         Waiting::Nothing => fields::put_text(b"-\n", at, line),
@@ -82,7 +84,7 @@ fn put_waiting(waiting: Waiting, at: usize, line: &mut [u8]) -> usize
 
 // The state: ACC, D, the status and the word that waits.
 pub fn state_line(registers: Registers, out: &mut [u8]) -> Line
-    ensures { Makes (stateLine registers) result out.old out.new }
+    ensures { Makes (state_line registers) result out.old out.new }
 {
     let mut line = [0u8; LONGEST];
     let waiting = registers.waiting;
@@ -99,7 +101,7 @@ pub fn state_line(registers: Registers, out: &mut [u8]) -> Line
 
 // A register that is not 0; one that is 0 has no line.
 pub fn register_line(number: u64, value: u16, out: &mut [u8]) -> Line
-    ensures { Makes (registerLine number value) result out.old out.new }
+    ensures { Makes (register_line number value) result out.old out.new }
 {
     if value == 0 {
         return Line::Made(0);
@@ -123,7 +125,7 @@ fn counted_line(text: &[u8], number: u64, out: &mut [u8]) -> Line
 }
 
 fn refused_line(number: u64, index: u64, out: &mut [u8]) -> Line
-    ensures { Makes (refusedLine number index) result out.old out.new }
+    ensures { Makes (refused_line number index) result out.old out.new }
 {
     let mut line = [0u8; LONGEST];
     let mut at = fields::put_text(b"refused ", 0, &mut line);
@@ -135,14 +137,14 @@ fn refused_line(number: u64, index: u64, out: &mut [u8]) -> Line
 
 // A word of a listing that is refused.
 pub fn word_refused_line(number: u8, out: &mut [u8]) -> Line
-    ensures { Makes (wordRefusedLine number) result out.old out.new }
+    ensures { Makes (word_refused_line number) result out.old out.new }
 {
     counted_line(b"refused ", number as u64, out)
 }
 
 // The last line, by how the run ended.
 pub fn last_line(ending: Ending, accepted: u64, out: &mut [u8]) -> Line
-    ensures { Makes (lastLine ending accepted) result out.old out.new }
+    ensures { Makes (last_line ending accepted) result out.old out.new }
 {
     match ending {
         Ending::Done => counted_line(b"done ", accepted, out),

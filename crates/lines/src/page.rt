@@ -1,8 +1,8 @@
 // What is printed of a run, line after line.
 ghost use Rattle.std.specs.Prelude.{◌≡◌, [], ◌+◌, ◌*◌, ◌≤◌, get_or};
-ghost use Rattle.run.specs.Splitting.{wordsPerReport};
+ghost use Rattle.run.specs.Splitting.{words_per_report};
 ghost use Rattle.lines.specs.Answers.{Makes};
-ghost use Rattle.lines.specs.Pages.{reportLine, page_of};
+ghost use Rattle.lines.specs.Pages.{report_line, page_of};
 
 use crate::Line;
 use run::{Ran, WORDS_PER_REPORT};
@@ -24,7 +24,7 @@ pub const LAST_BYTES: usize = 53;
 // A word of report `index`, 0 where the reports do not have it.
 fn report_word(reports: &[u16], index: usize, word: usize) -> u16
     requires { word ≤ 3 }
-    ensures { result ≡ get_or reports.now (wordsPerReport * index + word) 0 }
+    ensures { result ≡ get_or reports.now (words_per_report * index + word) 0 }
 {
     if reports.len() <= index {
         return 0;
@@ -34,7 +34,7 @@ fn report_word(reports: &[u16], index: usize, word: usize) -> u16
 }
 
 fn report_line(reports: &[u16], index: usize, out: &mut [u8]) -> Line
-    ensures { Makes (reportLine reports.now index) result out.old out.new }
+    ensures { Makes (report_line reports.now index) result out.old out.new }
 {
     let y = report_word(reports, index, 0);
     let mask = report_word(reports, index, 1);

@@ -3,7 +3,7 @@ ghost use Rattle.std.specs.Prelude.{◌≡◌, [], ◌∷◌, ◌++◌, ℕ, ◌
 ghost use Rattle.choice.specs.Text.{hex, decimal, ascii};
 ghost use Rattle.lines.specs.Answers.{Makes};
 ghost use Rattle.lines.specs.Putting.{Puts};
-ghost use Rattle.lines.specs.Remarks.{name_of, meaningOf, reasonText, refusalText, remarkText, remarkLine};
+ghost use Rattle.lines.specs.Remarks.{name_of, meaning_of, reason_text, refusal_text, remark_text, remark_line};
 
 use crate::{Line, Program, Remark, fields};
 
@@ -71,7 +71,7 @@ fn put_cycle(index: usize, noun: &[u8], value: u16, why: &[u8], at: usize, line:
 // Where and why, of the numbers of a whole run, of a cycle, and of a trace. A number that is not in the table has no reason.
 fn put_start_reason(number: u8, at: usize, line: &mut [u8]) -> usize
     requires { (number < 5) × (at + 93 ≤ length line.old) }
-    ensures { ((i w p : ℕ) → Puts (reasonText (meaningOf number) i w p) at result line.old line.new) × (result ≤ at + 93) }
+    ensures { ((i w p : ℕ) → Puts (reason_text (meaning_of number) i w p) at result line.old line.new) × (result ≤ at + 93) }
 {
     match number {
         1 => put_whole(b"the words are not whole cycles of three\n", at, line),
@@ -91,7 +91,7 @@ fn put_cycle_reason(
     line: &mut [u8],
 ) -> usize
     requires { (4 < number) × (number < 11) × (at + 93 ≤ length line.old) }
-    ensures { Puts (reasonText (meaningOf number) index word pins) at result line.old line.new × (result ≤ at + 93) }
+    ensures { Puts (reason_text (meaning_of number) index word pins) at result line.old line.new × (result ≤ at + 93) }
 {
     match number {
         5 => put_cycle(
@@ -147,7 +147,7 @@ fn put_cycle_reason(
 
 fn put_trace_reason(number: u8, index: usize, at: usize, line: &mut [u8]) -> usize
     requires { (10 < number) × (at + 93 ≤ length line.old) }
-    ensures { ((w p : ℕ) → Puts (reasonText (meaningOf number) index w p) at result line.old line.new) × (result ≤ at + 93) }
+    ensures { ((w p : ℕ) → Puts (reason_text (meaning_of number) index w p) at result line.old line.new) × (result ≤ at + 93) }
 {
     match number {
         11 => put_whole(b"the length is not a multiple of 512 bytes\n", at, line),
@@ -170,7 +170,7 @@ fn put_trace_reason(number: u8, index: usize, at: usize, line: &mut [u8]) -> usi
 
 fn put_reason(number: u8, index: usize, word: u16, pins: u16, at: usize, line: &mut [u8]) -> usize
     requires { at + 93 ≤ length line.old }
-    ensures { Puts (reasonText (meaningOf number) index word pins) at result line.old line.new × (result ≤ at + 93) }
+    ensures { Puts (reason_text (meaning_of number) index word pins) at result line.old line.new × (result ≤ at + 93) }
 {
     if number < 5 {
         return put_start_reason(number, at, line);
@@ -183,7 +183,7 @@ fn put_reason(number: u8, index: usize, word: u16, pins: u16, at: usize, line: &
 
 fn put_refusal(number: u8, index: usize, word: u16, pins: u16, at: usize, line: &mut [u8]) -> usize
     requires { at + 122 ≤ length line.old }
-    ensures { Puts (refusalText number index word pins) at result line.old line.new × (result ≤ at + 122) }
+    ensures { Puts (refusal_text number index word pins) at result line.old line.new × (result ≤ at + 122) }
 {
     let after = put_number(b"refused ", number as u64, b' ', at, line);
     put_reason(number, index, word, pins, after, line)
@@ -191,7 +191,7 @@ fn put_refusal(number: u8, index: usize, word: u16, pins: u16, at: usize, line: 
 
 fn put_remark(remark: Remark, at: usize, line: &mut [u8]) -> usize
     requires { at + 122 ≤ length line.old }
-    ensures { Puts (remarkText remark) at result line.old line.new × (result ≤ at + 122) }
+    ensures { Puts (remark_text remark) at result line.old line.new × (result ≤ at + 122) }
 {
     match remark {
         Remark::NoInput => fields::put_text(b"standard input cannot be read\n", at, line),
@@ -221,7 +221,7 @@ fn put_remark(remark: Remark, at: usize, line: &mut [u8]) -> usize
 
 // What a program says, as a line.
 pub fn remark_line(program: Program, remark: Remark, out: &mut [u8]) -> Line
-    ensures { Makes (remarkLine program remark) result out.old out.new }
+    ensures { Makes (remark_line program remark) result out.old out.new }
 {
     let mut line = [0u8; REMARK_BYTES];
     let mut at = put_name(program, 0, &mut line);

@@ -4,7 +4,7 @@ ghost use Rattle.choice.specs.Pick.{pick};
 ghost use Rattle.choice.specs.Text.{newline, blank};
 ghost use Rattle.lines.specs.Answers.{Makes};
 ghost use Rattle.lines.specs.Putting.{Puts};
-ghost use Rattle.lines.specs.Words.{wordsText, wordsLine, expectedText, faultLine};
+ghost use Rattle.lines.specs.Words.{words_text, words_line, expected_text, fault_line};
 
 use crate::{Line, fields};
 use text::{Expected, Fault, WORDS_PER_LINE};
@@ -24,7 +24,7 @@ fn after_word(next: usize, count: usize) -> u8
 // Words with a blank between them, and the line's end.
 fn put_words(words: &[u16], line: &mut [u8]) -> usize
     requires { length line.old ≡ 5 * length words.now }
-    ensures { Puts (wordsText words.now) 0 result line.old line.new × (result ≡ 5 * length words.now) }
+    ensures { Puts (words_text words.now) 0 result line.old line.new × (result ≡ 5 * length words.now) }
 {
     let mut at: usize = 0;
     let mut i: usize = 0;
@@ -39,7 +39,7 @@ fn put_words(words: &[u16], line: &mut [u8]) -> usize
 
 // The line of cycle `index` of some cycle words; past the last one lines are empty.
 pub fn words_line(words: &[u16], index: usize, out: &mut [u8]) -> Line
-    ensures { Makes (wordsLine words.now index) result out.old out.new }
+    ensures { Makes (words_line words.now index) result out.old out.new }
 {
     if words.len() / WORDS_PER_LINE <= index {
         return Line::Made(0);
@@ -52,7 +52,7 @@ pub fn words_line(words: &[u16], index: usize, out: &mut [u8]) -> Line
 
 fn put_expected(expected: Expected, at: usize, line: &mut [u8]) -> usize
     requires { at + 20 ≤ length line.old }
-    ensures { Puts (expectedText expected) at result line.old line.new × (result ≤ at + 20) }
+    ensures { Puts (expected_text expected) at result line.old line.new × (result ≤ at + 20) }
 {
     match expected {
         Expected::Digit => fields::put_text(b"a hex digit\n", at, line),
@@ -64,7 +64,7 @@ fn put_expected(expected: Expected, at: usize, line: &mut [u8]) -> usize
 
 // Which line of a text cannot be read, where, and what was expected there.
 pub fn fault_line(fault: Fault, out: &mut [u8]) -> Line
-    ensures { Makes (faultLine fault) result out.old out.new }
+    ensures { Makes (fault_line fault) result out.old out.new }
 {
     let expected = fault.expected;
     let mut line = [0u8; FAULT_BYTES];

@@ -13,11 +13,11 @@ use Rattle.choice.specs.Pick.{pick}
 use Rattle.choice.specs.Text.{blank}
 use Rattle.choice.proofs.Spans.{both}
 use Rattle.listing.specs.declared.Keys.{Keys}
-use Rattle.listing.specs.Keys.{key_of, bytes_of, keyBytes, textOfKey, afterBlank, keysLine, PutAt}
+use Rattle.listing.specs.Keys.{key_of, bytes_of, key_bytes, text_of_key, after_blank, keys_line, PutAt}
 
-pub text-of : (k : ℕ) → textOfKey k ≡ bytes_of keyBytes k
-unfolding textOfKey
-text-of k = refl
+pub text_of_lem : (k : ℕ) → text_of_key k ≡ bytes_of key_bytes k
+unfolding text_of_key
+text_of_lem k = refl
 
 pub none_left : (n k : ℕ) → n ≤ 0 → bytes_of n k ≡ []
 unfolding bytes_of
@@ -41,8 +41,8 @@ abbrev pub proper : List ℕ → Bool
 proper [] = true
 proper (b ∷ bs) = elim (ltb 0 b) [ true ↦ elim (ltb b 256) [ true ↦ proper bs | false ↦ false ] | false ↦ false ]
 
-pub proper-first : (b : ℕ) (bs : List ℕ) → T (proper (b ∷ bs)) → (0 < b) × (b < 256) × T (proper bs)
-proper-first b bs t =
+pub proper_first : (b : ℕ) (bs : List ℕ) → T (proper (b ∷ bs)) → (0 < b) × (b < 256) × T (proper bs)
+proper_first b bs t =
     let x = both (ltb 0 b) (elim (ltb b 256) [ true ↦ proper bs | false ↦ false ]) t in
     let y = both (ltb b 256) (proper bs) x.1 in
     (ltb→lt 0 b x.0, ltb→lt b 256 y.0, y.1)
@@ -52,7 +52,7 @@ pub key_back : (n : ℕ) (t : List ℕ) → T (proper t) → length t ≤ n → 
 key_back n [] h l = no_bytes n 0 refl
 key_back zero (b ∷ bs) h l = absurd (omega arith)
 key_back (suc n) (b ∷ bs) h l =
-    let f = proper-first b bs h in
+    let f = proper_first b bs h in
     let k : ℕ = key_of bs in
     let m : (b + 256 * k) % 256 ≡ b = omega (arith, f.1) in
     let d : (b + 256 * k) / 256 ≡ k = omega (arith, f.1) in
@@ -61,85 +61,85 @@ key_back (suc n) (b ∷ bs) h l =
     ∙ rw (m, d, e) (ap (λ (z : List ℕ). b ∷ z) (key_back n bs f.2 (omega arith)))
 
 -- text put after text
-pub sets-twice : {A : Type 0} (l : List A) (i : ℕ) (xs ys : List A) (j : ℕ) → j ≡ i + length xs → sets (sets l i xs) j ys ≡ sets l i (xs ++ ys)
-sets-twice l i [] ys j e = let h : j ≡ i = omega arith in rw h
-sets-twice l i (x ∷ xs) ys j e = sets-twice (set l i x) (suc i) xs ys j (omega arith)
+pub sets_twice : {A : Type 0} (l : List A) (i : ℕ) (xs ys : List A) (j : ℕ) → j ≡ i + length xs → sets (sets l i xs) j ys ≡ sets l i (xs ++ ys)
+sets_twice l i [] ys j e = let h : j ≡ i = omega arith in rw h
+sets_twice l i (x ∷ xs) ys j e = sets_twice (set l i x) (suc i) xs ys j (omega arith)
 
-pub put-turn : (out all : List ℕ) (i n k : ℕ) → 0 < n → (k ≡ 0 → ⊥) → sets out i (bytes_of n k) ≡ all
+pub put_turn : (out all : List ℕ) (i n k : ℕ) → 0 < n → (k ≡ 0 → ⊥) → sets out i (bytes_of n k) ≡ all
     → sets (set out i (k % 256)) (i + 1) (bytes_of (n - 1) (k / 256)) ≡ all
-put-turn out all i n k h z e =
+put_turn out all i n k h z e =
     let f : sets out i (k % 256 ∷ bytes_of (n - 1) (k / 256)) ≡ all = ap (sets out i) (sym (first_byte n k h z)) ∙ e in
     rw (add-one i) f
 
-pub bytes-short : (n k : ℕ) → length (bytes_of n k) ≤ n
+pub bytes_short : (n k : ℕ) → length (bytes_of n k) ≤ n
 unfolding bytes_of
-bytes-short zero k = omega arith
-bytes-short (suc n) k = by-test (eqb k 0) (bytes-short n (k / 256))
+bytes_short zero k = omega arith
+bytes_short (suc n) k = by-test (eqb k 0) (bytes_short n (k / 256))
   where
     by-test : (b : Bool) → length (bytes_of n (k / 256)) ≤ n → length (pick b [] (k % 256 ∷ bytes_of n (k / 256))) ≤ suc n
     by-test true h = omega arith
     by-test false h = omega arith
 
-pub text-short : (k : ℕ) → length (textOfKey k) ≤ 8
-text-short k = rw (text-of k) (bytes-short 8 k)
+pub text_short : (k : ℕ) → length (text_of_key k) ≤ 8
+text_short k = rw (text_of_lem k) (bytes_short 8 k)
 
 -- after a blank
-pub no_key : (k : ℕ) → k ≡ 0 → afterBlank k ≡ []
-unfolding afterBlank
-no_key k e = rw (eq-eqb k 0 e)
+pub no_key_lem : (k : ℕ) → k ≡ 0 → after_blank k ≡ []
+unfolding after_blank
+no_key_lem k e = rw (eq-eqb k 0 e)
 
-pub some_key : (k : ℕ) → (k ≡ 0 → ⊥) → afterBlank k ≡ blank ∷ textOfKey k
-unfolding afterBlank
+pub some_key : (k : ℕ) → (k ≡ 0 → ⊥) → after_blank k ≡ blank ∷ text_of_key k
+unfolding after_blank
 some_key k z = rw (ne_eqb k 0 z)
 
-pub after-short : (k : ℕ) → length (afterBlank k) ≤ 9
-unfolding afterBlank
-after-short k = by-test (eqb k 0)
+pub after_short : (k : ℕ) → length (after_blank k) ≤ 9
+unfolding after_blank
+after_short k = by-test (eqb k 0)
   where
-    by-test : (b : Bool) → length (pick b [] (blank ∷ textOfKey k)) ≤ 9
+    by-test : (b : Bool) → length (pick b [] (blank ∷ text_of_key k)) ≤ 9
     by-test true = omega arith
-    by-test false = omega (arith, text-short k)
+    by-test false = omega (arith, text_short k)
 
-pub line-long : (k : Keys) → length (keysLine k) ≡ length (textOfKey k.family) + length (afterBlank k.mode) + length (afterBlank k.a) + length (afterBlank k.b) + length (afterBlank k.c)
-line-long k = simp length-append (omega arith)
+pub line_long : (k : Keys) → length (keys_line k) ≡ length (text_of_key k.family) + length (after_blank k.mode) + length (after_blank k.a) + length (after_blank k.b) + length (after_blank k.c)
+line_long k = simp length-append (omega arith)
 
-pub after-put : (out last : List ℕ) (at k : ℕ) → (k ≡ 0 → ⊥) → last ≡ sets (set out at blank) (at + 1) (textOfKey k) → last ≡ sets out at (afterBlank k)
-after-put out last at k z e = rw (some_key k z) (e ∙ ap (λ (j : ℕ). sets (set out at blank) j (textOfKey k)) (add-one at))
+pub after_put : (out last : List ℕ) (at k : ℕ) → (k ≡ 0 → ⊥) → last ≡ sets (set out at blank) (at + 1) (text_of_key k) → last ≡ sets out at (after_blank k)
+after_put out last at k z e = rw (some_key k z) (e ∙ ap (λ (j : ℕ). sets (set out at blank) j (text_of_key k)) (add-one at))
 
 -- one text put after another
-pub puts-join : (t u : List ℕ) (at r q : ℕ) (s₀ s₁ s₂ : List ℕ) → PutAt t at r s₀ s₁ → PutAt u r q s₁ s₂ → PutAt (t ++ u) at q s₀ s₂
-puts-join t u at r q s₀ s₁ s₂ p o = record {
+pub puts_join : (t u : List ℕ) (at r q : ℕ) (s₀ s₁ s₂ : List ℕ) → PutAt t at r s₀ s₁ → PutAt u r q s₁ s₂ → PutAt (t ++ u) at q s₀ s₂
+puts_join t u at r q s₀ s₁ s₂ p o = record {
   next = simp length-append (omega (arith, p.next, o.next));
-  written = o.written ∙ ap (λ (s : List ℕ). sets s r u) p.written ∙ sets-twice s₀ at t u r p.next;
+  written = o.written ∙ ap (λ (s : List ℕ). sets s r u) p.written ∙ sets_twice s₀ at t u r p.next;
 }
 
-pub puts-long : {t : List ℕ} {at r : ℕ} {s₀ s₁ : List ℕ} → PutAt t at r s₀ s₁ → length s₁ ≡ length s₀
-puts-long {t} {at} {r} {s₀} {s₁} p = ap length p.written ∙ length-sets s₀ at t
+pub puts_long : {t : List ℕ} {at r : ℕ} {s₀ s₁ : List ℕ} → PutAt t at r s₀ s₁ → length s₁ ≡ length s₀
+puts_long {t} {at} {r} {s₀} {s₁} p = ap length p.written ∙ length-sets s₀ at t
 
 -- the five texts of a line, one after another
-module _ (k : Keys) (s₀ : List ℕ) (room : length (keysLine k) ≤ length s₀) where
-  pub room_0 : 0 + length (textOfKey k.family) ≤ length s₀
-  room_0 = omega (arith, line-long k)
+module _ (k : Keys) (s₀ : List ℕ) (room : length (keys_line k) ≤ length s₀) where
+  pub room_0 : 0 + length (text_of_key k.family) ≤ length s₀
+  room_0 = omega (arith, line_long k)
 
-  module _ (r₁ : ℕ) (s₁ : List ℕ) (p₁ : PutAt (textOfKey k.family) 0 r₁ s₀ s₁) where
-    pub room-1 : r₁ + length (afterBlank k.mode) ≤ length s₁
-    room-1 = omega (arith, line-long k, p₁.next, puts-long p₁)
+  module _ (r₁ : ℕ) (s₁ : List ℕ) (p₁ : PutAt (text_of_key k.family) 0 r₁ s₀ s₁) where
+    pub room-1 : r₁ + length (after_blank k.mode) ≤ length s₁
+    room-1 = omega (arith, line_long k, p₁.next, puts_long p₁)
 
-    module _ (r₂ : ℕ) (s₂ : List ℕ) (p₂ : PutAt (afterBlank k.mode) r₁ r₂ s₁ s₂) where
-      pub room-2 : r₂ + length (afterBlank k.a) ≤ length s₂
-      room-2 = omega (arith, line-long k, p₁.next, p₂.next, puts-long p₁, puts-long p₂)
+    module _ (r₂ : ℕ) (s₂ : List ℕ) (p₂ : PutAt (after_blank k.mode) r₁ r₂ s₁ s₂) where
+      pub room-2 : r₂ + length (after_blank k.a) ≤ length s₂
+      room-2 = omega (arith, line_long k, p₁.next, p₂.next, puts_long p₁, puts_long p₂)
 
-      module _ (r₃ : ℕ) (s₃ : List ℕ) (p₃ : PutAt (afterBlank k.a) r₂ r₃ s₂ s₃) where
-        pub room-3 : r₃ + length (afterBlank k.b) ≤ length s₃
-        room-3 = omega (arith, line-long k, p₁.next, p₂.next, p₃.next, puts-long p₁, puts-long p₂, puts-long p₃)
+      module _ (r₃ : ℕ) (s₃ : List ℕ) (p₃ : PutAt (after_blank k.a) r₂ r₃ s₂ s₃) where
+        pub room-3 : r₃ + length (after_blank k.b) ≤ length s₃
+        room-3 = omega (arith, line_long k, p₁.next, p₂.next, p₃.next, puts_long p₁, puts_long p₂, puts_long p₃)
 
-        module _ (r₄ : ℕ) (s₄ : List ℕ) (p₄ : PutAt (afterBlank k.b) r₃ r₄ s₃ s₄) where
-          pub room-4 : r₄ + length (afterBlank k.c) ≤ length s₄
-          room-4 = omega (arith, line-long k, p₁.next, p₂.next, p₃.next, p₄.next, puts-long p₁, puts-long p₂, puts-long p₃, puts-long p₄)
+        module _ (r₄ : ℕ) (s₄ : List ℕ) (p₄ : PutAt (after_blank k.b) r₃ r₄ s₃ s₄) where
+          pub room-4 : r₄ + length (after_blank k.c) ≤ length s₄
+          room-4 = omega (arith, line_long k, p₁.next, p₂.next, p₃.next, p₄.next, puts_long p₁, puts_long p₂, puts_long p₃, puts_long p₄)
 
-          pub all-put : (r₅ : ℕ) (s₅ : List ℕ) → PutAt (afterBlank k.c) r₄ r₅ s₄ s₅ → s₅ ≡ sets s₀ 0 (keysLine k)
+          pub all-put : (r₅ : ℕ) (s₅ : List ℕ) → PutAt (after_blank k.c) r₄ r₅ s₄ s₅ → s₅ ≡ sets s₀ 0 (keys_line k)
           all-put r₅ s₅ p₅ =
-              let q₄ = puts-join _ _ r₃ r₄ r₅ s₃ s₄ s₅ p₄ p₅ in
-              let q₃ = puts-join _ _ r₂ r₃ r₅ s₂ s₃ s₅ p₃ q₄ in
-              let q₂ = puts-join _ _ r₁ r₂ r₅ s₁ s₂ s₅ p₂ q₃ in
-              (puts-join _ _ 0 r₁ r₅ s₀ s₁ s₅ p₁ q₂).written
+              let q₄ = puts_join _ _ r₃ r₄ r₅ s₃ s₄ s₅ p₄ p₅ in
+              let q₃ = puts_join _ _ r₂ r₃ r₅ s₂ s₃ s₅ p₃ q₄ in
+              let q₂ = puts_join _ _ r₁ r₂ r₅ s₁ s₂ s₅ p₂ q₃ in
+              (puts_join _ _ 0 r₁ r₅ s₀ s₁ s₅ p₁ q₂).written

@@ -1,5 +1,5 @@
 -- Each refusal of a line that is read, told exactly: which items were read, and what stood where the reader stopped.
--- The laws, in this order: `read-refused`, `twenty`, `twenty-one`, `twenty-two`, `seven-to-nine`, `data-refused`, `data-twenty-one`,
+-- The laws, in this order: `read_refused`, `twenty`, `twenty-one`, `twenty-two`, `seven_to_nine`, `data_refused`, `data-twenty-one`,
 -- `data-twenty-two`.
 use mathlib.Core.Path.{◌≡◌, refl, sym, ap, ◌∙◌, subst}
 use mathlib.Core.Bool.{Bool, true, false}
@@ -10,54 +10,54 @@ use Prim.Native.Nat.{ℕ, ◌≤◌}
 use native.Mathlib.Omega.{arith}
 use lib.Dec.{T, leb, leb→le}
 use Rattle.choice.specs.Pick.{pick}
-use Rattle.choice.specs.Tells.{Tells, refused, Placed, acceptedWhole, refusedAt}
-use Rattle.choice.proofs.Spans.{both, where-held, span, below}
+use Rattle.choice.specs.Tells.{Tells, refused, Placed, accepted_whole, refused_at}
+use Rattle.choice.proofs.Spans.{both, where_held, span, below}
 use Rattle.choice.proofs.Tells.{refused-one, accepted-refused, refused-at-one, whole-refused}
 use Rattle.isa.specs.declared.Family.{Family}
 use Rattle.isa.specs.declared.Named.{Named}
 use Rattle.isa.specs.Table.{row_at, no_row, number_of}
-use Rattle.isa.specs.Words.{encodeOf, word_for, Answered}
+use Rattle.isa.specs.Words.{encode_of, word_for, Answered}
 use Rattle.isa.proofs.Families.{own_row}
-use Rattle.isa.proofs.Laws.{named-answered}
-use Rattle.listing.specs.Places.{Place, form_of, written, atFamily, atMode, valueIn}
+use Rattle.isa.proofs.Laws.{named_answered}
+use Rattle.listing.specs.Places.{Place, form_of, written, at_family, at_mode, value_in}
 use Rattle.listing.specs.Items.{Item, items_of}
-use Rattle.listing.specs.Lines.{valueThen, expect, onlyOf, field, ended, encoded, instruction, fields_of, word_of, past_of}
-use Rattle.listing.specs.Data.{dataIn, dataFrom, data_of}
-use Rattle.listing.specs.Refusing.{Reads, FieldReads, Unreadable, formAt, HasMode, HasA, HasB, HasC, Stands, Misread, LeftOver, Unencoded, Refuses, shown, left, has-mode, has-a, has-b, has-c, at-family, at-mode, at_a, at_b, at_c, misread, item-left, has-no-word, at_place, left_over, unencoded, NoData, DataThenMore, RefusesData, more, no-data, data-left}
+use Rattle.listing.specs.Lines.{value_then, expect, only_of, field, ended, encoded, instruction, fields_of, word_of, past_of}
+use Rattle.listing.specs.Data.{data_in, data_from, data_of}
+use Rattle.listing.specs.Refusing.{Reads, FieldReads, Unreadable, form_at, HasMode, HasA, HasB, HasC, Stands, Misread, LeftOver, Unencoded, Refuses, shown, left, has_mode, has_a, has_b, has_c, at_family_lem, at_mode_lem, at_a, at_b, at_c, misread, item_left, has_no_word, at_place, left_over, unencoded, NoData, DataThenMore, RefusesData, more, no_data, data_left}
 
 -- a step of the reader: where it stops, where it goes on, and that there is no third
 module _ (past : ℕ) (next : ℕ → List Item → Placed ℕ) where
-  expect-stops : (p : Place) (xs : List Item) (c : ℕ) → Unreadable past p xs c → expect past p xs next ≡ refusedAt p.refusal c
-  expect-stops p [] c u = ap (refusedAt p.refusal) (sym u)
-  expect-stops p (x ∷ xs) c u = ap (λ (o : Option ℕ). valueThen p.refusal x.column xs o next) u.0 ∙ ap (refusedAt p.refusal) (sym u.1)
+  expect-stops : (p : Place) (xs : List Item) (c : ℕ) → Unreadable past p xs c → expect past p xs next ≡ refused_at p.refusal c
+  expect-stops p [] c u = ap (refused_at p.refusal) (sym u)
+  expect-stops p (x ∷ xs) c u = ap (λ (o : Option ℕ). value_then p.refusal x.column xs o next) u.0 ∙ ap (refused_at p.refusal) (sym u.1)
 
   expect-goes : (p : Place) (xs : List Item) (v : ℕ) (rest : List Item) → Reads p xs v rest → expect past p xs next ≡ next v rest
   expect-goes p xs v rest r =
       ap (λ (xs : List Item). expect past p xs next) r.first
-      ∙ ap (λ (o : Option ℕ). valueThen p.refusal r.item.column rest o next) r.value
+      ∙ ap (λ (o : Option ℕ). value_then p.refusal r.item.column rest o next) r.value
 
   field-goes : (s : ℕ) (p : Place) (xs : List Item) (v : ℕ) (rest : List Item) → FieldReads s p xs v rest → field past s p xs next ≡ next v rest
   field-goes s p xs v rest (shown q r) = rw q (expect-goes p xs v rest r)
   field-goes s p xs v rest (left q e l) = rw (q, e, l)
 
   module _ (k c : ℕ) (P : Type 0) where
-    expect-met : (p : Place) (xs : List Item) → expect past p xs next ≡ refusedAt k c
-        → (k ≡ p.refusal → Unreadable past p xs c → P) → ((v : ℕ) (rest : List Item) → Reads p xs v rest → next v rest ≡ refusedAt k c → P) → P
+    expect-met : (p : Place) (xs : List Item) → expect past p xs next ≡ refused_at k c
+        → (k ≡ p.refusal → Unreadable past p xs c → P) → ((v : ℕ) (rest : List Item) → Reads p xs v rest → next v rest ≡ refused_at k c → P) → P
     expect-met p [] e halt on = let s = refused-at-one k p.refusal c past (sym e) in halt s.0 s.1
-    expect-met p (x ∷ xs) e halt on = by_value (valueIn p.names x.text) refl e halt
+    expect-met p (x ∷ xs) e halt on = by_value (value_in p.names x.text) refl e halt
       where
-        by_value : (o : Option ℕ) → valueIn p.names x.text ≡ o → valueThen p.refusal x.column xs o next ≡ refusedAt k c
+        by_value : (o : Option ℕ) → value_in p.names x.text ≡ o → value_then p.refusal x.column xs o next ≡ refused_at k c
             → (k ≡ p.refusal → Unreadable past p (x ∷ xs) c → P) → P
         by_value none q e halt = let s = refused-at-one k p.refusal c x.column (sym e) in halt s.0 (q, s.1)
         by_value (some v) q e halt = on v xs (record { item = x; first = refl; value = q }) e
 
-    field-met : (s : ℕ) (p : Place) (xs : List Item) → field past s p xs next ≡ refusedAt k c
-        → (written p ≡ true → k ≡ p.refusal → Unreadable past p xs c → P) → ((v : ℕ) (rest : List Item) → FieldReads s p xs v rest → next v rest ≡ refusedAt k c → P) → P
+    field-met : (s : ℕ) (p : Place) (xs : List Item) → field past s p xs next ≡ refused_at k c
+        → (written p ≡ true → k ≡ p.refusal → Unreadable past p xs c → P) → ((v : ℕ) (rest : List Item) → FieldReads s p xs v rest → next v rest ≡ refused_at k c → P) → P
     field-met s p xs e halt on = by-test (written p) refl e
       where
-        by-test : (b : Bool) → written p ≡ b → pick b (expect past p xs next) (next (onlyOf s) xs) ≡ refusedAt k c → P
+        by-test : (b : Bool) → written p ≡ b → pick b (expect past p xs next) (next (only_of s) xs) ≡ refused_at k c → P
         by-test true q e = expect-met p xs e (halt q) (λ v rest r. on v rest (shown q r))
-        by-test false q e = on (onlyOf s) xs (left q refl refl) e
+        by-test false q e = on (only_of s) xs (left q refl refl) e
 
 -- what is read after each item
 module _ (past i mark : ℕ) where
@@ -65,136 +65,136 @@ module _ (past i mark : ℕ) where
   after-c a b c xs = ended xs (encoded (instruction (row_at i) mark a b c))
 
   abbrev after-b : ℕ → ℕ → List Item → Placed ℕ
-  after-b a b xs = field past (row_at i).c (formAt i).c xs (after-c a b)
+  after-b a b xs = field past (row_at i).c (form_at i).c xs (after-c a b)
 
   abbrev after-a : ℕ → List Item → Placed ℕ
-  after-a a xs = field past (row_at i).b (formAt i).b xs (after-b a)
+  after-a a xs = field past (row_at i).b (form_at i).b xs (after-b a)
 
-abbrev after-family : ℕ → ℕ → List Item → Placed ℕ
-after-family past i xs = expect past atMode xs (fields_of past (row_at i))
+abbrev after_family : ℕ → ℕ → List Item → Placed ℕ
+after_family past i xs = expect past at_mode xs (fields_of past (row_at i))
 
 module _ (line : List ℕ) where
   abbrev past : ℕ
   past = past_of line
 
   -- what was read brings the reader to what is left
-  to-family : (i : ℕ) (xs : List Item) → Reads atFamily (items_of line) i xs → word_of line ≡ after-family past i xs
+  to-family : (i : ℕ) (xs : List Item) → Reads at_family (items_of line) i xs → word_of line ≡ after_family past i xs
   unfolding word_of
-  to-family i xs r = expect-goes past (after-family past) atFamily (items_of line) i xs r
+  to-family i xs r = expect-goes past (after_family past) at_family (items_of line) i xs r
 
   to-mode : (i mark : ℕ) (xs : List Item) → HasMode line i mark xs → word_of line ≡ fields_of past (row_at i) mark xs
-  to-mode i mark xs (has-mode ys f m) = to-family i ys f ∙ expect-goes past (fields_of past (row_at i)) atMode ys mark xs m
+  to-mode i mark xs (has_mode ys f m) = to-family i ys f ∙ expect-goes past (fields_of past (row_at i)) at_mode ys mark xs m
 
   to-a : (i mark a : ℕ) (xs : List Item) → HasA line i mark a xs → word_of line ≡ after-a past i mark a xs
-  to-a i mark a xs (has-a ys h f) = to-mode i mark ys h ∙ field-goes past (after-a past i mark) (row_at i).a (formAt i).a ys a xs f
+  to-a i mark a xs (has_a ys h f) = to-mode i mark ys h ∙ field-goes past (after-a past i mark) (row_at i).a (form_at i).a ys a xs f
 
   to-b : (i mark a b : ℕ) (xs : List Item) → HasB line i mark a b xs → word_of line ≡ after-b past i mark a b xs
-  to-b i mark a b xs (has-b ys h f) = to-a i mark a ys h ∙ field-goes past (after-b past i mark a) (row_at i).b (formAt i).b ys b xs f
+  to-b i mark a b xs (has_b ys h f) = to-a i mark a ys h ∙ field-goes past (after-b past i mark a) (row_at i).b (form_at i).b ys b xs f
 
   to-c : (i mark a b c : ℕ) (xs : List Item) → HasC line i mark a b c xs → word_of line ≡ after-c past i mark a b c xs
-  to-c i mark a b c xs (has-c ys h f) = to-b i mark a b ys h ∙ field-goes past (after-c past i mark a b) (row_at i).c (formAt i).c ys c xs f
+  to-c i mark a b c xs (has_c ys h f) = to-b i mark a b ys h ∙ field-goes past (after-c past i mark a b) (row_at i).c (form_at i).c ys c xs f
 
   -- where it stands, it expects the place's item
   written-field : (s : ℕ) (p q : Place) (xs : List Item) (next : ℕ → List Item → Placed ℕ) → p ≡ q → written p ≡ true → field past s q xs next ≡ expect past p xs next
-  written-field s p q xs next e w = ap (λ (q : Place). field past s q xs next) (sym e) ∙ ap (λ (b : Bool). pick b (expect past p xs next) (next (onlyOf s) xs)) w
+  written-field s p q xs next e w = ap (λ (q : Place). field past s q xs next) (sym e) ∙ ap (λ (b : Bool). pick b (expect past p xs next) (next (only_of s) xs)) w
 
-  stands-stops : (p : Place) (xs : List Item) (c : ℕ) → Stands line p xs → Unreadable past p xs c → word_of line ≡ refusedAt p.refusal c
+  stands-stops : (p : Place) (xs : List Item) (c : ℕ) → Stands line p xs → Unreadable past p xs c → word_of line ≡ refused_at p.refusal c
   unfolding word_of
-  stands-stops p xs c (at-family e x) u =
-      ap (λ (ys : List Item). expect past atFamily ys (after-family past)) (sym x)
-      ∙ ap (λ (q : Place). expect past q xs (after-family past)) (sym e)
-      ∙ expect-stops past (after-family past) p xs c u
-  stands-stops p xs c (at-mode i r e) u =
+  stands-stops p xs c (at_family_lem e x) u =
+      ap (λ (ys : List Item). expect past at_family ys (after_family past)) (sym x)
+      ∙ ap (λ (q : Place). expect past q xs (after_family past)) (sym e)
+      ∙ expect-stops past (after_family past) p xs c u
+  stands-stops p xs c (at_mode_lem i r e) u =
       to-family i xs r ∙ ap (λ (q : Place). expect past q xs (fields_of past (row_at i))) (sym e) ∙ expect-stops past (fields_of past (row_at i)) p xs c u
   stands-stops p xs c (at_a i mark h e w) u =
-      to-mode i mark xs h ∙ written-field (row_at i).a p (formAt i).a xs (after-a past i mark) e w ∙ expect-stops past (after-a past i mark) p xs c u
+      to-mode i mark xs h ∙ written-field (row_at i).a p (form_at i).a xs (after-a past i mark) e w ∙ expect-stops past (after-a past i mark) p xs c u
   stands-stops p xs c (at_b i mark a h e w) u =
-      to-a i mark a xs h ∙ written-field (row_at i).b p (formAt i).b xs (after-b past i mark a) e w ∙ expect-stops past (after-b past i mark a) p xs c u
+      to-a i mark a xs h ∙ written-field (row_at i).b p (form_at i).b xs (after-b past i mark a) e w ∙ expect-stops past (after-b past i mark a) p xs c u
   stands-stops p xs c (at_c i mark a b h e w) u =
-      to-b i mark a b xs h ∙ written-field (row_at i).c p (formAt i).c xs (after-c past i mark a b) e w ∙ expect-stops past (after-c past i mark a b) p xs c u
+      to-b i mark a b xs h ∙ written-field (row_at i).c p (form_at i).c xs (after-c past i mark a b) e w ∙ expect-stops past (after-c past i mark a b) p xs c u
 
   module _ (k column : ℕ) where
-    refuses-so : Refuses line k column → word_of line ≡ refusedAt k column
-    refuses-so (at_place (misread p xs s e u)) = stands-stops p xs column s u ∙ ap (λ (j : ℕ). refusedAt j column) e
-    refuses-so (left_over e (item-left i mark a b c x xs h l)) =
-        to-c i mark a b c (x ∷ xs) h ∙ ap (refusedAt 22) (sym l) ∙ ap (λ (j : ℕ). refusedAt j column) (sym e)
-    refuses-so (unencoded (has-no-word i mark a b c h e l)) =
-        to-c i mark a b c [] h ∙ ap (λ (t : Tells ℕ). record { told = t; index = 0 }) e ∙ ap (refusedAt k) (sym l)
+    refuses-so : Refuses line k column → word_of line ≡ refused_at k column
+    refuses-so (at_place (misread p xs s e u)) = stands-stops p xs column s u ∙ ap (λ (j : ℕ). refused_at j column) e
+    refuses-so (left_over e (item_left i mark a b c x xs h l)) =
+        to-c i mark a b c (x ∷ xs) h ∙ ap (refused_at 22) (sym l) ∙ ap (λ (j : ℕ). refused_at j column) (sym e)
+    refuses-so (unencoded (has_no_word i mark a b c h e l)) =
+        to-c i mark a b c [] h ∙ ap (λ (t : Tells ℕ). record { told = t; index = 0 }) e ∙ ap (refused_at k) (sym l)
 
-    by_end : (i mark a b c : ℕ) (xs : List Item) → HasC line i mark a b c xs → after-c past i mark a b c xs ≡ refusedAt k column → Refuses line k column
-    by_end i mark a b c [] h e = unencoded (has-no-word i mark a b c h (ap (λ (p : Placed ℕ). p.told) e) (sym (ap (λ (p : Placed ℕ). p.index) e)))
-    by_end i mark a b c (x ∷ xs) h e = let s = refused-at-one k 22 column x.column (sym e) in left_over s.0 (item-left i mark a b c x xs h s.1)
+    by_end : (i mark a b c : ℕ) (xs : List Item) → HasC line i mark a b c xs → after-c past i mark a b c xs ≡ refused_at k column → Refuses line k column
+    by_end i mark a b c [] h e = unencoded (has_no_word i mark a b c h (ap (λ (p : Placed ℕ). p.told) e) (sym (ap (λ (p : Placed ℕ). p.index) e)))
+    by_end i mark a b c (x ∷ xs) h e = let s = refused-at-one k 22 column x.column (sym e) in left_over s.0 (item_left i mark a b c x xs h s.1)
 
-    by-c : (i mark a b : ℕ) (xs : List Item) → HasB line i mark a b xs → after-b past i mark a b xs ≡ refusedAt k column → Refuses line k column
+    by-c : (i mark a b : ℕ) (xs : List Item) → HasB line i mark a b xs → after-b past i mark a b xs ≡ refused_at k column → Refuses line k column
     by-c i mark a b xs h e =
-        field-met past (after-c past i mark a b) k column (Refuses line k column) (row_at i).c (formAt i).c xs e
-        (λ w n u. at_place (misread (formAt i).c xs (at_c i mark a b h refl w) (sym n) u))
-        (λ c rest r g. by_end i mark a b c rest (has-c xs h r) g)
+        field-met past (after-c past i mark a b) k column (Refuses line k column) (row_at i).c (form_at i).c xs e
+        (λ w n u. at_place (misread (form_at i).c xs (at_c i mark a b h refl w) (sym n) u))
+        (λ c rest r g. by_end i mark a b c rest (has_c xs h r) g)
 
-    by-b : (i mark a : ℕ) (xs : List Item) → HasA line i mark a xs → after-a past i mark a xs ≡ refusedAt k column → Refuses line k column
+    by-b : (i mark a : ℕ) (xs : List Item) → HasA line i mark a xs → after-a past i mark a xs ≡ refused_at k column → Refuses line k column
     by-b i mark a xs h e =
-        field-met past (after-b past i mark a) k column (Refuses line k column) (row_at i).b (formAt i).b xs e
-        (λ w n u. at_place (misread (formAt i).b xs (at_b i mark a h refl w) (sym n) u))
-        (λ b rest r g. by-c i mark a b rest (has-b xs h r) g)
+        field-met past (after-b past i mark a) k column (Refuses line k column) (row_at i).b (form_at i).b xs e
+        (λ w n u. at_place (misread (form_at i).b xs (at_b i mark a h refl w) (sym n) u))
+        (λ b rest r g. by-c i mark a b rest (has_b xs h r) g)
 
-    by-a : (i mark : ℕ) (xs : List Item) → HasMode line i mark xs → fields_of past (row_at i) mark xs ≡ refusedAt k column → Refuses line k column
+    by-a : (i mark : ℕ) (xs : List Item) → HasMode line i mark xs → fields_of past (row_at i) mark xs ≡ refused_at k column → Refuses line k column
     by-a i mark xs h e =
-        field-met past (after-a past i mark) k column (Refuses line k column) (row_at i).a (formAt i).a xs e
-        (λ w n u. at_place (misread (formAt i).a xs (at_a i mark h refl w) (sym n) u))
-        (λ a rest r g. by-b i mark a rest (has-a xs h r) g)
+        field-met past (after-a past i mark) k column (Refuses line k column) (row_at i).a (form_at i).a xs e
+        (λ w n u. at_place (misread (form_at i).a xs (at_a i mark h refl w) (sym n) u))
+        (λ a rest r g. by-b i mark a rest (has_a xs h r) g)
 
-    by_mode : (i : ℕ) (xs : List Item) → Reads atFamily (items_of line) i xs → after-family past i xs ≡ refusedAt k column → Refuses line k column
+    by_mode : (i : ℕ) (xs : List Item) → Reads at_family (items_of line) i xs → after_family past i xs ≡ refused_at k column → Refuses line k column
     by_mode i xs f e =
-        expect-met past (fields_of past (row_at i)) k column (Refuses line k column) atMode xs e
-        (λ n u. at_place (misread atMode xs (at-mode i f refl) (sym n) u))
-        (λ mark rest r g. by-a i mark rest (has-mode xs f r) g)
+        expect-met past (fields_of past (row_at i)) k column (Refuses line k column) at_mode xs e
+        (λ n u. at_place (misread at_mode xs (at_mode_lem i f refl) (sym n) u))
+        (λ mark rest r g. by-a i mark rest (has_mode xs f r) g)
 
-    so-refuses : word_of line ≡ refusedAt k column → Refuses line k column
+    so-refuses : word_of line ≡ refused_at k column → Refuses line k column
     unfolding word_of
     so-refuses e =
-        expect-met past (after-family past) k column (Refuses line k column) atFamily (items_of line) e
-        (λ n u. at_place (misread atFamily (items_of line) (at-family refl refl) (sym n) u))
+        expect-met past (after_family past) k column (Refuses line k column) at_family (items_of line) e
+        (λ n u. at_place (misread at_family (items_of line) (at_family_lem refl refl) (sym n) u))
         (λ i rest r g. by_mode i rest r g)
 
 -- a line is refused with a number and a column exactly so
-pub read-refused : (line : List ℕ) (k column : ℕ) → (word_of line ≡ refusedAt k column) ↔ Refuses line k column
-read-refused line k column = (so-refuses line k column, refuses-so line k column)
+pub read_refused : (line : List ℕ) (k column : ℕ) → (word_of line ≡ refused_at k column) ↔ Refuses line k column
+read_refused line k column = (so-refuses line k column, refuses-so line k column)
 
 -- a field that is written has the refusal 20 or 21
 abbrev known : Place → Bool
 known p = elim (written p) [ true ↦ elim (leb 20 p.refusal) [ true ↦ leb p.refusal 21 | false ↦ false ] | false ↦ true ]
 
-abbrev form-known : Family → Bool
-form-known f = elim (known (form_of f).a) [ true ↦ elim (known (form_of f).b) [ true ↦ known (form_of f).c | false ↦ false ] | false ↦ false ]
+abbrev form_known : Family → Bool
+form_known f = elim (known (form_of f).a) [ true ↦ elim (known (form_of f).b) [ true ↦ known (form_of f).c | false ↦ false ] | false ↦ false ]
 
-all_known : T (span 0 no_row (λ i. form-known (row_at i).family))
+all_known : T (span 0 no_row (λ i. form_known (row_at i).family))
 all_known = tt
 
 knows : (f : Family) → T (known (form_of f).a) × T (known (form_of f).b) × T (known (form_of f).c)
 knows f =
-    let l = subst (λ (f : Family). T (form-known f)) (own_row f).1 (below (λ i. form-known (row_at i).family) no_row (number_of f) all_known (own_row f).0) in
+    let l = subst (λ (f : Family). T (form_known f)) (own_row f).1 (below (λ i. form_known (row_at i).family) no_row (number_of f) all_known (own_row f).0) in
     let t = both (known (form_of f).a) _ l in
     let u = both (known (form_of f).b) (known (form_of f).c) t.1 in
     (t.0, u.0, u.1)
 
-field-number : (p q : Place) → p ≡ q → written p ≡ true → T (known q) → (20 ≤ p.refusal) × (p.refusal ≤ 21)
-field-number p q e w t =
-    let b = both (leb 20 p.refusal) (leb p.refusal 21) (where-held (written p) _ (subst (λ (q : Place). T (known q)) (sym e) t) w) in
+field_number : (p q : Place) → p ≡ q → written p ≡ true → T (known q) → (20 ≤ p.refusal) × (p.refusal ≤ 21)
+field_number p q e w t =
+    let b = both (leb 20 p.refusal) (leb p.refusal 21) (where_held (written p) _ (subst (λ (q : Place). T (known q)) (sym e) t) w) in
     (leb→le 20 p.refusal b.0, leb→le p.refusal 21 b.1)
 
 -- a place where the reader stands has the refusal 20 or 21
-pub stands-number : (line : List ℕ) (p : Place) (xs : List Item) → Stands line p xs → (20 ≤ p.refusal) × (p.refusal ≤ 21)
-stands-number line p xs (at-family e x) = field-number p atFamily e (ap written e) tt
-stands-number line p xs (at-mode i r e) = field-number p atMode e (ap written e) tt
-stands-number line p xs (at_a i mark h e w) = field-number p (formAt i).a e w (knows (row_at i).family).0
-stands-number line p xs (at_b i mark a h e w) = field-number p (formAt i).b e w (knows (row_at i).family).1
-stands-number line p xs (at_c i mark a b h e w) = field-number p (formAt i).c e w (knows (row_at i).family).2
+pub stands_number : (line : List ℕ) (p : Place) (xs : List Item) → Stands line p xs → (20 ≤ p.refusal) × (p.refusal ≤ 21)
+stands_number line p xs (at_family_lem e x) = field_number p at_family e (ap written e) tt
+stands_number line p xs (at_mode_lem i r e) = field_number p at_mode e (ap written e) tt
+stands_number line p xs (at_a i mark h e w) = field_number p (form_at i).a e w (knows (row_at i).family).0
+stands_number line p xs (at_b i mark a h e w) = field_number p (form_at i).b e w (knows (row_at i).family).1
+stands_number line p xs (at_c i mark a b h e w) = field_number p (form_at i).c e w (knows (row_at i).family).2
 
 -- a refusal's number says of which kind it is
-named-number : (n : Named) (k : ℕ) → encodeOf n ≡ refused k → k ≤ 9
-named-number n k e = by_answer (named-answered n)
+named_number : (n : Named) (k : ℕ) → encode_of n ≡ refused k → k ≤ 9
+named_number n k e = by_answer (named_answered n)
   where
-    by_answer : Answered (encodeOf n) (word_for n) → k ≤ 9
+    by_answer : Answered (encode_of n) (word_for n) → k ≤ 9
     by_answer (inl q) = absurd (accepted-refused (word_for n) k (sym q ∙ e))
     by_answer (inr (inl q)) = omega (arith, refused-one {A = ℕ} 7 k (sym q ∙ e))
     by_answer (inr (inr (inl q))) = omega (arith, refused-one {A = ℕ} 8 k (sym q ∙ e))
@@ -202,10 +202,10 @@ named-number n k e = by_answer (named-answered n)
 
 module _ (line : List ℕ) (k column : ℕ) where
   place-number : Misread line k column → (20 ≤ k) × (k ≤ 21)
-  place-number (misread p xs s e u) = subst (λ (k : ℕ). (20 ≤ k) × (k ≤ 21)) e (stands-number line p xs s)
+  place-number (misread p xs s e u) = subst (λ (k : ℕ). (20 ≤ k) × (k ≤ 21)) e (stands_number line p xs s)
 
   word_number : Unencoded line k column → k ≤ 9
-  word_number (has-no-word i mark a b c h e l) = named-number (instruction (row_at i) mark a b c) k e
+  word_number (has_no_word i mark a b c h e l) = named_number (instruction (row_at i) mark a b c) k e
 
   misreads : 20 ≤ k → k ≤ 21 → Refuses line k column → Misread line k column
   misreads l h (at_place m) = m
@@ -224,64 +224,64 @@ module _ (line : List ℕ) (k column : ℕ) where
 
 module _ (line : List ℕ) (column : ℕ) where
   -- 20: at a place of names, none of them
-  pub twenty : (word_of line ≡ refusedAt 20 column) ↔ Misread line 20 column
+  pub twenty : (word_of line ≡ refused_at 20 column) ↔ Misread line 20 column
   twenty = (λ e. misreads line 20 column (omega arith) (omega arith) (so-refuses line 20 column e), λ m. refuses-so line 20 column (at_place m))
 
   -- 21: at a place of numbers, none of them
-  pub twenty-one : (word_of line ≡ refusedAt 21 column) ↔ Misread line 21 column
+  pub twenty-one : (word_of line ≡ refused_at 21 column) ↔ Misread line 21 column
   twenty-one = (λ e. misreads line 21 column (omega arith) (omega arith) (so-refuses line 21 column e), λ m. refuses-so line 21 column (at_place m))
 
   -- 22: an item left over
-  pub twenty-two : (word_of line ≡ refusedAt 22 column) ↔ LeftOver line column
+  pub twenty-two : (word_of line ≡ refused_at 22 column) ↔ LeftOver line column
   twenty-two = (λ e. leaves-over line 22 column refl (so-refuses line 22 column e), λ m. refuses-so line 22 column (left_over refl m))
 
 -- 7, 8 and 9: those of the named instruction
-pub seven-to-nine : (line : List ℕ) (k column : ℕ) → k ≤ 9 → (word_of line ≡ refusedAt k column) ↔ Unencoded line k column
-seven-to-nine line k column h = (λ e. lacks-word line k column h (so-refuses line k column e), λ u. refuses-so line k column (unencoded u))
+pub seven_to_nine : (line : List ℕ) (k column : ℕ) → k ≤ 9 → (word_of line ≡ refused_at k column) ↔ Unencoded line k column
+seven_to_nine line k column h = (λ e. lacks-word line k column h (so-refuses line k column e), λ u. refuses-so line k column (unencoded u))
 
-abbrev after-data : ℕ → List Item → Placed ℕ
-after-data d xs = ended xs (acceptedWhole d)
+abbrev after_data : ℕ → List Item → Placed ℕ
+after_data d xs = ended xs (accepted_whole d)
 
 module _ (past column : ℕ) where
-  data-stops : (xs : List Item) → NoData past xs column → dataFrom past xs ≡ refusedAt 21 column
-  data-stops [] u = ap (refusedAt 21) (sym u)
-  data-stops (x ∷ xs) u = ap (λ (o : Option ℕ). valueThen 21 x.column xs o after-data) u.0 ∙ ap (refusedAt 21) (sym u.1)
+  data-stops : (xs : List Item) → NoData past xs column → data_from past xs ≡ refused_at 21 column
+  data-stops [] u = ap (refused_at 21) (sym u)
+  data-stops (x ∷ xs) u = ap (λ (o : Option ℕ). value_then 21 x.column xs o after_data) u.0 ∙ ap (refused_at 21) (sym u.1)
 
-  data-leaves : (xs : List Item) → DataThenMore xs column → dataFrom past xs ≡ refusedAt 22 column
-  data-leaves xs (more x y rest d e q l) = ap (dataFrom past) e ∙ ap (λ (o : Option ℕ). valueThen 21 x.column (y ∷ rest) o after-data) q ∙ ap (refusedAt 22) (sym l)
+  data-leaves : (xs : List Item) → DataThenMore xs column → data_from past xs ≡ refused_at 22 column
+  data-leaves xs (more x y rest d e q l) = ap (data_from past) e ∙ ap (λ (o : Option ℕ). value_then 21 x.column (y ∷ rest) o after_data) q ∙ ap (refused_at 22) (sym l)
 
-  data-met : (k : ℕ) (P : Type 0) (xs : List Item) → dataFrom past xs ≡ refusedAt k column → (k ≡ 21 → NoData past xs column → P) → (k ≡ 22 → DataThenMore xs column → P) → P
+  data-met : (k : ℕ) (P : Type 0) (xs : List Item) → data_from past xs ≡ refused_at k column → (k ≡ 21 → NoData past xs column → P) → (k ≡ 22 → DataThenMore xs column → P) → P
   data-met k P [] e f g = let s = refused-at-one k 21 column past (sym e) in f s.0 s.1
-  data-met k P (x ∷ xs) e f g = by_value (dataIn x.text) refl xs e f g
+  data-met k P (x ∷ xs) e f g = by_value (data_in x.text) refl xs e f g
     where
-      by_value : (o : Option ℕ) → dataIn x.text ≡ o → (xs : List Item) → valueThen 21 x.column xs o after-data ≡ refusedAt k column
+      by_value : (o : Option ℕ) → data_in x.text ≡ o → (xs : List Item) → value_then 21 x.column xs o after_data ≡ refused_at k column
           → (k ≡ 21 → NoData past (x ∷ xs) column → P) → (k ≡ 22 → DataThenMore (x ∷ xs) column → P) → P
       by_value none q xs e f g = let s = refused-at-one k 21 column x.column (sym e) in f s.0 (q, s.1)
       by_value (some d) q [] e f g = absurd (whole-refused d k column e)
       by_value (some d) q (y ∷ ys) e f g = let s = refused-at-one k 22 column y.column (sym e) in g s.0 (more x y ys d refl q s.1)
 
 -- data is refused with a number and a column exactly so
-pub data-refused : (line : List ℕ) (k column : ℕ) → (data_of line ≡ refusedAt k column) ↔ RefusesData line k column
+pub data_refused : (line : List ℕ) (k column : ℕ) → (data_of line ≡ refused_at k column) ↔ RefusesData line k column
 unfolding data_of
-data-refused line k column = (λ e. data-met (past_of line) column k (RefusesData line k column) (items_of line) e no-data data-left, so)
+data_refused line k column = (λ e. data-met (past_of line) column k (RefusesData line k column) (items_of line) e no_data data_left, so)
   where
-    so : RefusesData line k column → dataFrom (past_of line) (items_of line) ≡ refusedAt k column
-    so (no-data e u) = data-stops (past_of line) column (items_of line) u ∙ ap (λ (j : ℕ). refusedAt j column) (sym e)
-    so (data-left e m) = data-leaves (past_of line) column (items_of line) m ∙ ap (λ (j : ℕ). refusedAt j column) (sym e)
+    so : RefusesData line k column → data_from (past_of line) (items_of line) ≡ refused_at k column
+    so (no_data e u) = data-stops (past_of line) column (items_of line) u ∙ ap (λ (j : ℕ). refused_at j column) (sym e)
+    so (data_left e m) = data-leaves (past_of line) column (items_of line) m ∙ ap (λ (j : ℕ). refused_at j column) (sym e)
 
 module _ (line : List ℕ) (column : ℕ) where
   lacks-data : (k : ℕ) → k ≡ 21 → RefusesData line k column → NoData (past_of line) (items_of line) column
-  lacks-data k h (no-data e u) = u
-  lacks-data k h (data-left e m) = absurd (omega arith)
+  lacks-data k h (no_data e u) = u
+  lacks-data k h (data_left e m) = absurd (omega arith)
 
   leaves-data : (k : ℕ) → k ≡ 22 → RefusesData line k column → DataThenMore (items_of line) column
-  leaves-data k h (no-data e u) = absurd (omega arith)
-  leaves-data k h (data-left e m) = m
+  leaves-data k h (no_data e u) = absurd (omega arith)
+  leaves-data k h (data_left e m) = m
 
   -- 21: no four digits first
-  pub data-twenty-one : (data_of line ≡ refusedAt 21 column) ↔ NoData (past_of line) (items_of line) column
-  data-twenty-one = (λ e. lacks-data 21 refl ((data-refused line 21 column).0 e), λ u. (data-refused line 21 column).1 (no-data refl u))
+  pub data-twenty-one : (data_of line ≡ refused_at 21 column) ↔ NoData (past_of line) (items_of line) column
+  data-twenty-one = (λ e. lacks-data 21 refl ((data_refused line 21 column).0 e), λ u. (data_refused line 21 column).1 (no_data refl u))
 
   -- 22: an item after them
-  pub data-twenty-two : (data_of line ≡ refusedAt 22 column) ↔ DataThenMore (items_of line) column
-  data-twenty-two = (λ e. leaves-data 22 refl ((data-refused line 22 column).0 e), λ m. (data-refused line 22 column).1 (data-left refl m))
+  pub data-twenty-two : (data_of line ≡ refused_at 22 column) ↔ DataThenMore (items_of line) column
+  data-twenty-two = (λ e. leaves-data 22 refl ((data_refused line 22 column).0 e), λ m. (data_refused line 22 column).1 (data_left refl m))

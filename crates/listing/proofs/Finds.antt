@@ -11,7 +11,7 @@ use lib.ListN.{length, take, drop, get_or, length-take, length-drop, drop_of_len
 use lib.Seq.{drop-cons, get_or-take, get_or-drop}
 use borrow.Author.Tests.{eqb-true, eqb-false, eq-eqb, ne_eqb, ltb-true, ltb-false}
 use Rattle.choice.specs.Pick.{pick}
-use Rattle.choice.specs.Tells.{Placed, refusedAt}
+use Rattle.choice.specs.Tells.{Placed, refused_at}
 use Rattle.choice.proofs.Spans.{both, never}
 use Rattle.choice.proofs.Decisions.{along, along-by}
 use Rattle.choice.specs.Along.{Along}
@@ -19,19 +19,19 @@ use Rattle.isa.specs.Sets.{has}
 use Rattle.listing.specs.declared.Next.{Next}
 use Rattle.listing.specs.declared.Step.{Step}
 use Rattle.listing.specs.Names.{Name}
-use Rattle.listing.specs.Places.{Place, place, written, sameText, textIn, valueIn}
+use Rattle.listing.specs.Places.{Place, place, written, same_text, text_in, value_in}
 use Rattle.listing.specs.Items.{Item}
-use Rattle.listing.specs.Lines.{expect, valueThen, lowest, onlyOf, field, ended, past_of}
-use Rattle.listing.specs.Keys.{key_of, noKey, oneMore, keyFrom, keyIn, valueBy}
-use Rattle.listing.specs.Entries.{table, entries, entry_of, entry_at, noName, spanned, placed, sameNames, samePlace}
-use Rattle.listing.specs.Reading.{itemsAt, someLeft, Nexts, Steps, columnOf, firstKey, after}
-use Rattle.listing.proofs.Bytes.{proper, proper-first}
-use Rattle.listing.proofs.Tables.{every, fits, fits-proper, fits-small, same_text}
+use Rattle.listing.specs.Lines.{expect, value_then, lowest, only_of, field, ended, past_of}
+use Rattle.listing.specs.Keys.{key_of, no_key, one_more, key_from, key_in, value_by}
+use Rattle.listing.specs.Entries.{table, entries, entry_of, entry_at, no_name, spanned, placed, same_names, same_place}
+use Rattle.listing.specs.Reading.{items_at, some_left, Nexts, Steps, column_of, first_key, after}
+use Rattle.listing.proofs.Bytes.{proper, proper_first}
+use Rattle.listing.proofs.Tables.{every, fits, fits_proper, fits_small, same_text_lem}
 
-more-some : (b k : ℕ) → oneMore b k ≡ 0 → ⊥
-more-some b k e = by-test (eqb b 0) (ltb b 256) (ltb k 0x100000000000000) refl e
+more_some : (b k : ℕ) → one_more b k ≡ 0 → ⊥
+more_some b k e = by-test (eqb b 0) (ltb b 256) (ltb k 0x100000000000000) refl e
   where
-    by-test : (z s l : Bool) → eqb b 0 ≡ z → pick z noKey (pick s (pick l (b + 256 * k) noKey) noKey) ≡ 0 → ⊥
+    by-test : (z s l : Bool) → eqb b 0 ≡ z → pick z no_key (pick s (pick l (b + 256 * k) no_key) no_key) ≡ 0 → ⊥
     by-test true s l q e = omega arith
     by-test false false l q e = omega arith
     by-test false true false q e = omega arith
@@ -44,7 +44,7 @@ same_digits a b p k e = by-test (eqb p k) refl
     by-test true q = eq-eqb (a + 256 * p) (b + 256 * k) (omega (arith, eqb-true p k q))
     by-test false q = ne_eqb (a + 256 * p) (b + 256 * k) (λ (z : a + 256 * p ≡ b + 256 * k). eqb-false p k q (omega arith))
 
-module _ (a b p k : ℕ) (s : Bool) (a₀ : 0 < a) (a₁ : a < 256) (small : a + 256 * p < noKey) (rest : eqb p k ≡ s) where
+module _ (a b p k : ℕ) (s : Bool) (a₀ : 0 < a) (a₁ : a < 256) (small : a + 256 * p < no_key) (rest : eqb p k ≡ s) where
   other_text : (a ≡ b → ⊥) → false ≡ elim (eqb a b) [ true ↦ s | false ↦ false ]
   other_text n = rw (ne_eqb a b n)
 
@@ -55,61 +55,61 @@ module _ (a b p k : ℕ) (s : Bool) (a₀ : 0 < a) (a₁ : a < 256) (small : a +
       by-test true = sym (ne_eqb p k (λ z. omega arith)) ∙ rest
       by-test false = refl
 
-  one-match : eqb (a + 256 * p) (oneMore b k) ≡ elim (eqb a b) [ true ↦ s | false ↦ false ]
+  one-match : eqb (a + 256 * p) (one_more b k) ≡ elim (eqb a b) [ true ↦ s | false ↦ false ]
   one-match = by-test (eqb b 0) (ltb b 256) (ltb k 0x100000000000000) refl refl refl
     where
       by-test : (z l m : Bool) → eqb b 0 ≡ z → ltb b 256 ≡ l → ltb k 0x100000000000000 ≡ m
-          → eqb (a + 256 * p) (pick z noKey (pick l (pick m (b + 256 * k) noKey) noKey)) ≡ elim (eqb a b) [ true ↦ s | false ↦ false ]
-      by-test true l m qz ql qm = ne_eqb (a + 256 * p) noKey (λ (e : a + 256 * p ≡ noKey). omega arith) ∙ other_text (λ e. omega (arith, eqb-true b 0 qz))
-      by-test false false m qz ql qm = ne_eqb (a + 256 * p) noKey (λ (e : a + 256 * p ≡ noKey). omega arith) ∙ other_text (λ e. omega (arith, ltb-false b 256 ql))
-      by-test false true false qz ql qm = ne_eqb (a + 256 * p) noKey (λ (e : a + 256 * p ≡ noKey). omega arith) ∙ none-text (ltb-false k 0x100000000000000 qm)
+          → eqb (a + 256 * p) (pick z no_key (pick l (pick m (b + 256 * k) no_key) no_key)) ≡ elim (eqb a b) [ true ↦ s | false ↦ false ]
+      by-test true l m qz ql qm = ne_eqb (a + 256 * p) no_key (λ (e : a + 256 * p ≡ no_key). omega arith) ∙ other_text (λ e. omega (arith, eqb-true b 0 qz))
+      by-test false false m qz ql qm = ne_eqb (a + 256 * p) no_key (λ (e : a + 256 * p ≡ no_key). omega arith) ∙ other_text (λ e. omega (arith, ltb-false b 256 ql))
+      by-test false true false qz ql qm = ne_eqb (a + 256 * p) no_key (λ (e : a + 256 * p ≡ no_key). omega arith) ∙ none-text (ltb-false k 0x100000000000000 qm)
       by-test false true true qz ql qm = digits (eqb a b) refl (ltb-true b 256 ql)
         where
           digits : (t : Bool) → eqb a b ≡ t → b < 256 → eqb (a + 256 * p) (b + 256 * k) ≡ elim t [ true ↦ s | false ↦ false ]
           digits true q h = same_digits a b p k (eqb-true a b q) ∙ rest
           digits false q h = ne_eqb (a + 256 * p) (b + 256 * k) (λ (e : a + 256 * p ≡ b + 256 * k). eqb-false a b q (omega arith))
 
-pub key-match : (x t : List ℕ) → T (proper x) → key_of x < noKey → eqb (key_of x) (keyFrom t) ≡ sameText x t
-key-match [] [] h l = refl
-key-match [] (b ∷ bs) h l = ne_eqb 0 (oneMore b (keyFrom bs)) (λ e. more-some b (keyFrom bs) (sym e))
-key-match (a ∷ xs) [] h l =
-    let f = proper-first a xs h in
+pub key_match : (x t : List ℕ) → T (proper x) → key_of x < no_key → eqb (key_of x) (key_from t) ≡ same_text x t
+key_match [] [] h l = refl
+key_match [] (b ∷ bs) h l = ne_eqb 0 (one_more b (key_from bs)) (λ e. more_some b (key_from bs) (sym e))
+key_match (a ∷ xs) [] h l =
+    let f = proper_first a xs h in
     ne_eqb (a + 256 * key_of xs) 0 (λ e. omega (arith, f.0))
-key-match (a ∷ xs) (b ∷ bs) h l =
-    let f = proper-first a xs h in
-    one-match a b (key_of xs) (keyFrom bs) (sameText xs bs) f.0 f.1 l (key-match xs bs f.2 (omega arith))
+key_match (a ∷ xs) (b ∷ bs) h l =
+    let f = proper_first a xs h in
+    one-match a b (key_of xs) (key_from bs) (same_text xs bs) f.0 f.1 l (key_match xs bs f.2 (omega arith))
 
 -- by the key or by the text, where all names fit a key
-pub value_same : (xs : List Name) (t : List ℕ) → T (every fits xs) → valueBy xs (keyFrom t) ≡ valueIn xs t
+pub value_same : (xs : List Name) (t : List ℕ) → T (every fits xs) → value_by xs (key_from t) ≡ value_in xs t
 value_same [] t h = refl
 value_same (x ∷ xs) t h =
     let b = both (fits x) (every fits xs) h in
-    ap (λ (q : Bool). elim q as (λ (z : Bool). Option ℕ) [ true ↦ some x.value | false ↦ valueBy xs (keyFrom t) ])
-    (key-match x.text t (fits-proper x b.0) (omega (arith, fits-small x b.0)))
-    ∙ ap (λ (o : Option ℕ). elim (sameText x.text t) as (λ (z : Bool). Option ℕ) [ true ↦ some x.value | false ↦ o ]) (value_same xs t b.1)
+    ap (λ (q : Bool). elim q as (λ (z : Bool). Option ℕ) [ true ↦ some x.value | false ↦ value_by xs (key_from t) ])
+    (key_match x.text t (fits_proper x b.0) (omega (arith, fits_small x b.0)))
+    ∙ ap (λ (o : Option ℕ). elim (same_text x.text t) as (λ (z : Bool). Option ℕ) [ true ↦ some x.value | false ↦ o ]) (value_same xs t b.1)
 
-pub value-never : (xs : List Name) → T (every fits xs) → valueBy xs noKey ≡ none
-value-never [] h = refl
-value-never (x ∷ xs) h =
+pub value_never : (xs : List Name) → T (every fits xs) → value_by xs no_key ≡ none
+value_never [] h = refl
+value_never (x ∷ xs) h =
     let b = both (fits x) (every fits xs) h in
-    ap (λ (q : Bool). elim q as (λ (z : Bool). Option ℕ) [ true ↦ some x.value | false ↦ valueBy xs noKey ])
-    (ne_eqb (key_of x.text) noKey (λ e. differ (key_of x.text) e (fits-small x b.0)))
-    ∙ value-never xs b.1
+    ap (λ (q : Bool). elim q as (λ (z : Bool). Option ℕ) [ true ↦ some x.value | false ↦ value_by xs no_key ])
+    (ne_eqb (key_of x.text) no_key (λ e. differ (key_of x.text) e (fits_small x b.0)))
+    ∙ value_never xs b.1
   where
-    differ : (k : ℕ) → k ≡ noKey → k < 0x100000000000000 → ⊥
+    differ : (k : ℕ) → k ≡ no_key → k < 0x100000000000000 → ⊥
     differ k e h = omega arith
 
 -- the table: how long it is, and that all its names fit a key
-table-long : length table ≡ entries
-table-long = refl
+table_long : length table ≡ entries
+table_long = refl
 
 table_fits : T (every fits table)
 table_fits = tt
 
-every-at : (test : Name → Bool) (xs : List Name) (i : ℕ) → T (every test xs) → i < length xs → T (test (get_or xs i noName))
-every-at test [] i h l = absurd (omega arith)
-every-at test (x ∷ xs) zero h l = (both (test x) (every test xs) h).0
-every-at test (x ∷ xs) (suc i) h l = every-at test xs i (both (test x) (every test xs) h).1 (omega arith)
+every_at : (test : Name → Bool) (xs : List Name) (i : ℕ) → T (every test xs) → i < length xs → T (test (get_or xs i no_name))
+every_at test [] i h l = absurd (omega arith)
+every_at test (x ∷ xs) zero h l = (both (test x) (every test xs) h).0
+every_at test (x ∷ xs) (suc i) h l = every_at test xs i (both (test x) (every test xs) h).1 (omega arith)
 
 every_take : (test : Name → Bool) (n : ℕ) (xs : List Name) → T (every test xs) → T (every test (take n xs))
 every_take test zero xs h = tt
@@ -130,95 +130,95 @@ every_drop test (suc n) (x ∷ xs) h = every_drop test n xs (both (test x) (ever
 pub span_fits : (p : ℕ) → T (every fits (spanned p))
 span_fits p = every_take fits (p % 64) (drop (p / 64) table) (every_drop fits (p / 64) table table_fits)
 
-span-long : (p : ℕ) → length (spanned p) ≡ min (p % 64) (entries - p / 64)
-span-long p = length-take (p % 64) (drop (p / 64) table) ∙ ap (min (p % 64)) (length-drop (p / 64) table)
+span_long : (p : ℕ) → length (spanned p) ≡ min (p % 64) (entries - p / 64)
+span_long p = length-take (p % 64) (drop (p / 64) table) ∙ ap (min (p % 64)) (length-drop (p / 64) table)
 
 -- entry i of a place
 module _ (p i e : ℕ) (h : i < p % 64) (l : p / 64 + i < entries) where
   abbrev name : Name
-  name = get_or table (p / 64 + i) noName
+  name = get_or table (p / 64 + i) no_name
 
   pub span-cons : drop i (spanned p) ≡ name ∷ drop (suc i) (spanned p)
   span-cons =
-      let s : i < length (spanned p) = omega (arith, span-long p) in
-      drop-cons (spanned p) i noName s
-      ∙ ap (λ (x : Name). x ∷ drop (suc i) (spanned p)) (get_or-take (p % 64) (drop (p / 64) table) i noName h ∙ get_or-drop (p / 64) table i noName)
+      let s : i < length (spanned p) = omega (arith, span_long p) in
+      drop-cons (spanned p) i no_name s
+      ∙ ap (λ (x : Name). x ∷ drop (suc i) (spanned p)) (get_or-take (p % 64) (drop (p / 64) table) i no_name h ∙ get_or-drop (p / 64) table i no_name)
 
   name-fits : T (fits name)
-  name-fits = every-at fits table (p / 64 + i) table_fits l
+  name-fits = every_at fits table (p / 64 + i) table_fits l
 
   module _ (is-entry : e ≡ entry_of name) where
     pub entry_key : e % 0x100000000000000 ≡ key_of name.text
-    entry_key = omega (arith, is-entry, fits-small name name-fits)
+    entry_key = omega (arith, is-entry, fits_small name name-fits)
 
     pub entry_value : e / 0x100000000000000 ≡ name.value
-    entry_value = omega (arith, is-entry, fits-small name name-fits)
+    entry_value = omega (arith, is-entry, fits_small name name-fits)
 
 pub span_none : (p i : ℕ) → (i < p % 64 → entries ≤ p / 64 + i) → drop i (spanned p) ≡ []
 span_none p i h = by-test (ltb i (p % 64)) refl
   where
     by-test : (b : Bool) → ltb i (p % 64) ≡ b → drop i (spanned p) ≡ []
-    by-test true q = let l : length (spanned p) ≤ i = omega (arith, span-long p, h (ltb-true i (p % 64) q)) in drop_of_length-le (spanned p) l
-    by-test false q = let l : length (spanned p) ≤ i = omega (arith, span-long p, ltb-false i (p % 64) q) in drop_of_length-le (spanned p) l
+    by-test true q = let l : length (spanned p) ≤ i = omega (arith, span_long p, h (ltb-true i (p % 64) q)) in drop_of_length-le (spanned p) l
+    by-test false q = let l : length (spanned p) ≤ i = omega (arith, span_long p, ltb-false i (p % 64) q) in drop_of_length-le (spanned p) l
 
 -- a search that stands at a name
 module _ (x : Name) (xs ys : List Name) (e : ys ≡ x ∷ xs) where
-  value-by : (k : ℕ) (b : Bool) → eqb (key_of x.text) k ≡ b → valueBy ys k ≡ elim b as (λ (z : Bool). Option ℕ) [ true ↦ some x.value | false ↦ valueBy xs k ]
+  value-by : (k : ℕ) (b : Bool) → eqb (key_of x.text) k ≡ b → value_by ys k ≡ elim b as (λ (z : Bool). Option ℕ) [ true ↦ some x.value | false ↦ value_by xs k ]
   value-by k b q =
-      ap (λ (zs : List Name). valueBy zs k) e
-      ∙ ap (λ (b : Bool). elim b as (λ (z : Bool). Option ℕ) [ true ↦ some x.value | false ↦ valueBy xs k ]) q
+      ap (λ (zs : List Name). value_by zs k) e
+      ∙ ap (λ (b : Bool). elim b as (λ (z : Bool). Option ℕ) [ true ↦ some x.value | false ↦ value_by xs k ]) q
 
-  pub found_here : (k : ℕ) → key_of x.text ≡ k → some x.value ≡ valueBy ys k
+  pub found_here : (k : ℕ) → key_of x.text ≡ k → some x.value ≡ value_by ys k
   found_here k q = sym (value-by k true (eq-eqb (key_of x.text) k q))
 
-  pub found-later : (k : ℕ) → (key_of x.text ≡ k → ⊥) → valueBy xs k ≡ valueBy ys k
+  pub found-later : (k : ℕ) → (key_of x.text ≡ k → ⊥) → value_by xs k ≡ value_by ys k
   found-later k q = sym (value-by k false (ne_eqb (key_of x.text) k q))
 
-  text_in : (v : ℕ) (b : Bool) → eqb x.value v ≡ b → textIn ys v ≡ elim b as (λ (z : Bool). List ℕ) [ true ↦ x.text | false ↦ textIn xs v ]
-  text_in v b q =
-      ap (λ (zs : List Name). textIn zs v) e
-      ∙ ap (λ (b : Bool). elim b as (λ (z : Bool). List ℕ) [ true ↦ x.text | false ↦ textIn xs v ]) q
+  text_in_lem : (v : ℕ) (b : Bool) → eqb x.value v ≡ b → text_in ys v ≡ elim b as (λ (z : Bool). List ℕ) [ true ↦ x.text | false ↦ text_in xs v ]
+  text_in_lem v b q =
+      ap (λ (zs : List Name). text_in zs v) e
+      ∙ ap (λ (b : Bool). elim b as (λ (z : Bool). List ℕ) [ true ↦ x.text | false ↦ text_in xs v ]) q
 
-  pub key_here : (v : ℕ) → x.value ≡ v → key_of x.text ≡ keyIn ys v
-  key_here v q = ap key_of (sym (text_in v true (eq-eqb x.value v q)))
+  pub key_here : (v : ℕ) → x.value ≡ v → key_of x.text ≡ key_in ys v
+  key_here v q = ap key_of (sym (text_in_lem v true (eq-eqb x.value v q)))
 
-  pub key-later : (v : ℕ) → (x.value ≡ v → ⊥) → keyIn xs v ≡ keyIn ys v
-  key-later v q = ap key_of (sym (text_in v false (ne_eqb x.value v q)))
+  pub key-later : (v : ℕ) → (x.value ≡ v → ⊥) → key_in xs v ≡ key_in ys v
+  key-later v q = ap key_of (sym (text_in_lem v false (ne_eqb x.value v q)))
 
 -- a turn of both searches
 module _ (p i e : ℕ) (h : i < p % 64) (l : p / 64 + i < entries) (q : e ≡ entry_at (p / 64 + i)) where
-  module _ (key : ℕ) (inv : valueBy (drop i (spanned p)) key ≡ valueBy (spanned p) key) where
-    pub find-here : e % 0x100000000000000 ≡ key → some (e / 0x100000000000000) ≡ valueBy (spanned p) key
+  module _ (key : ℕ) (inv : value_by (drop i (spanned p)) key ≡ value_by (spanned p) key) where
+    pub find-here : e % 0x100000000000000 ≡ key → some (e / 0x100000000000000) ≡ value_by (spanned p) key
     find-here k =
         ap some (entry_value p i e h l q)
         ∙ found_here (name p i e h l) (drop (suc i) (spanned p)) (drop i (spanned p)) (span-cons p i e h l) key (sym (entry_key p i e h l q) ∙ k)
         ∙ inv
 
-    pub find-next : (e % 0x100000000000000 ≡ key → ⊥) → valueBy (drop (i + 1) (spanned p)) key ≡ valueBy (spanned p) key
+    pub find-next : (e % 0x100000000000000 ≡ key → ⊥) → value_by (drop (i + 1) (spanned p)) key ≡ value_by (spanned p) key
     find-next k =
-        ap (λ (j : ℕ). valueBy (drop j (spanned p)) key) (add-one i)
+        ap (λ (j : ℕ). value_by (drop j (spanned p)) key) (add-one i)
         ∙ found-later (name p i e h l) (drop (suc i) (spanned p)) (drop i (spanned p)) (span-cons p i e h l) key (λ z. k (entry_key p i e h l q ∙ z))
         ∙ inv
 
-  module _ (v : ℕ) (inv : keyIn (drop i (spanned p)) v ≡ keyIn (spanned p) v) where
-    pub key-found : e / 0x100000000000000 ≡ v → e % 0x100000000000000 ≡ keyIn (spanned p) v
+  module _ (v : ℕ) (inv : key_in (drop i (spanned p)) v ≡ key_in (spanned p) v) where
+    pub key-found : e / 0x100000000000000 ≡ v → e % 0x100000000000000 ≡ key_in (spanned p) v
     key-found k =
         entry_key p i e h l q
         ∙ key_here (name p i e h l) (drop (suc i) (spanned p)) (drop i (spanned p)) (span-cons p i e h l) v (sym (entry_value p i e h l q) ∙ k)
         ∙ inv
 
-    pub key-next : (e / 0x100000000000000 ≡ v → ⊥) → keyIn (drop (i + 1) (spanned p)) v ≡ keyIn (spanned p) v
+    pub key-next : (e / 0x100000000000000 ≡ v → ⊥) → key_in (drop (i + 1) (spanned p)) v ≡ key_in (spanned p) v
     key-next k =
-        ap (λ (j : ℕ). keyIn (drop j (spanned p)) v) (add-one i)
+        ap (λ (j : ℕ). key_in (drop j (spanned p)) v) (add-one i)
         ∙ key-later (name p i e h l) (drop (suc i) (spanned p)) (drop i (spanned p)) (span-cons p i e h l) v (λ z. k (entry_value p i e h l q ∙ z))
         ∙ inv
 
 module _ (p i : ℕ) (h : i < p % 64 → entries ≤ p / 64 + i) where
-  pub find-end : (key : ℕ) → valueBy (drop i (spanned p)) key ≡ valueBy (spanned p) key → none ≡ valueBy (spanned p) key
-  find-end key inv = sym (ap (λ (xs : List Name). valueBy xs key) (span_none p i h)) ∙ inv
+  pub find-end : (key : ℕ) → value_by (drop i (spanned p)) key ≡ value_by (spanned p) key → none ≡ value_by (spanned p) key
+  find-end key inv = sym (ap (λ (xs : List Name). value_by xs key) (span_none p i h)) ∙ inv
 
-  pub key-end : (v : ℕ) → keyIn (drop i (spanned p)) v ≡ keyIn (spanned p) v → 0 ≡ keyIn (spanned p) v
-  key-end v inv = sym (ap (λ (xs : List Name). keyIn xs v) (span_none p i h)) ∙ inv
+  pub key-end : (v : ℕ) → key_in (drop i (spanned p)) v ≡ key_in (spanned p) v → 0 ≡ key_in (spanned p) v
+  key-end v inv = sym (ap (λ (xs : List Name). key_in xs v) (span_none p i h)) ∙ inv
 
 -- an entry of a stretch of the table
 pub stretch : (base n k r : ℕ) → Along eqb n (λ j. entry_at (base + j)) (k % 32) r → k % 32 < n → base + k % 32 ≡ k → r ≡ entry_at k
@@ -234,100 +234,100 @@ six (suc (suc (suc (suc (suc zero))))) l a b c d e f = absurd (f refl)
 six (suc (suc (suc (suc (suc (suc n)))))) l a b c d e f = omega arith
 
 -- two places that are the same
-same_names : (xs ys : List Name) → sameNames xs ys ≡ true → xs ≡ ys
-same_names [] [] e = refl
-same_names [] (y ∷ ys) e = absurd (never e)
-same_names (x ∷ xs) [] e = absurd (never e)
-same_names (x ∷ xs) (y ∷ ys) e = by-test (eqb x.value y.value) (sameText x.text y.text) refl refl e (same_names xs ys)
+same_names_lem : (xs ys : List Name) → same_names xs ys ≡ true → xs ≡ ys
+same_names_lem [] [] e = refl
+same_names_lem [] (y ∷ ys) e = absurd (never e)
+same_names_lem (x ∷ xs) [] e = absurd (never e)
+same_names_lem (x ∷ xs) (y ∷ ys) e = by-test (eqb x.value y.value) (same_text x.text y.text) refl refl e (same_names_lem xs ys)
   where
     same_name : (x y : Name) → x.value ≡ y.value → x.text ≡ y.text → x ≡ y
     same_name x y ev et = ap (λ (v : ℕ). record { value = v; text = x.text }) ev ∙ ap (λ (t : List ℕ). record { value = y.value; text = t }) et
 
-    by-test : (a b : Bool) → eqb x.value y.value ≡ a → sameText x.text y.text ≡ b
-        → elim a [ true ↦ elim b [ true ↦ sameNames xs ys | false ↦ false ] | false ↦ false ] ≡ true
-        → (sameNames xs ys ≡ true → xs ≡ ys) → x ∷ xs ≡ y ∷ ys
+    by-test : (a b : Bool) → eqb x.value y.value ≡ a → same_text x.text y.text ≡ b
+        → elim a [ true ↦ elim b [ true ↦ same_names xs ys | false ↦ false ] | false ↦ false ] ≡ true
+        → (same_names xs ys ≡ true → xs ≡ ys) → x ∷ xs ≡ y ∷ ys
     by-test true true p q e rest =
-        let h = same_name x y (eqb-true x.value y.value p) (same_text x.text y.text q) in
+        let h = same_name x y (eqb-true x.value y.value p) (same_text_lem x.text y.text q) in
         let r = rest e in
         cc
     by-test true false p q e rest = absurd (never e)
     by-test false b p q e rest = absurd (never e)
 
-same_place : (p q : Place) → samePlace p q ≡ true → p ≡ q
-same_place p q e = by-test (eqb p.refusal q.refusal) refl e
+same_place_lem : (p q : Place) → same_place p q ≡ true → p ≡ q
+same_place_lem p q e = by-test (eqb p.refusal q.refusal) refl e
   where
     both-same : (p q : Place) → p.refusal ≡ q.refusal → p.names ≡ q.names → p ≡ q
     both-same p q er en = ap (λ (k : ℕ). place k p.names) er ∙ ap (λ (xs : List Name). place q.refusal xs) en
 
-    by-test : (b : Bool) → eqb p.refusal q.refusal ≡ b → elim b [ true ↦ sameNames p.names q.names | false ↦ false ] ≡ true → p ≡ q
-    by-test true r e = both-same p q (eqb-true p.refusal q.refusal r) (same_names p.names q.names e)
+    by-test : (b : Bool) → eqb p.refusal q.refusal ≡ b → elim b [ true ↦ same_names p.names q.names | false ↦ false ] ≡ true → p ≡ q
+    by-test true r e = both-same p q (eqb-true p.refusal q.refusal r) (same_names_lem p.names q.names e)
     by-test false r e = absurd (never e)
 
-pub along-place : (n : ℕ) (f : ℕ → Place) (i : ℕ) (p : Place) → Along samePlace n f i p → i < n → p ≡ f i
-along-place = along-by samePlace same_place
+pub along_place : (n : ℕ) (f : ℕ → Place) (i : ℕ) (p : Place) → Along same_place n f i p → i < n → p ≡ f i
+along_place = along-by same_place same_place_lem
 
 -- the item at a place, by its key
 module _ (past p key : ℕ) (next : ℕ → List Item → Placed ℕ) where
-  by_key : (t : List ℕ) → valueBy (spanned p) (keyFrom t) ≡ valueIn (spanned p) t
+  by_key : (t : List ℕ) → value_by (spanned p) (key_from t) ≡ value_in (spanned p) t
   by_key t = value_same (spanned p) t (span_fits p)
 
-  expect-value : (xs rest : List Item) (v : ℕ) → key ≡ firstKey xs → some v ≡ valueBy (spanned p) key → rest ≡ after xs → next v rest ≡ expect past (placed p) xs next
-  expect-value [] rest v ek ev er = absurd (some-ne-none v (ev ∙ ap (valueBy (spanned p)) ek ∙ value-never (spanned p) (span_fits p)))
+  expect-value : (xs rest : List Item) (v : ℕ) → key ≡ first_key xs → some v ≡ value_by (spanned p) key → rest ≡ after xs → next v rest ≡ expect past (placed p) xs next
+  expect-value [] rest v ek ev er = absurd (some-ne-none v (ev ∙ ap (value_by (spanned p)) ek ∙ value_never (spanned p) (span_fits p)))
   expect-value (x ∷ xs) rest v ek ev er =
-      ap (next v) er ∙ ap (λ (o : Option ℕ). valueThen (placed p).refusal x.column xs o next) (ev ∙ ap (valueBy (spanned p)) ek ∙ by_key x.text)
+      ap (next v) er ∙ ap (λ (o : Option ℕ). value_then (placed p).refusal x.column xs o next) (ev ∙ ap (value_by (spanned p)) ek ∙ by_key x.text)
 
-  expect-none : (xs : List Item) → key ≡ firstKey xs → none ≡ valueBy (spanned p) key → refusedAt (placed p).refusal (columnOf past xs) ≡ expect past (placed p) xs next
+  expect-none : (xs : List Item) → key ≡ first_key xs → none ≡ value_by (spanned p) key → refused_at (placed p).refusal (column_of past xs) ≡ expect past (placed p) xs next
   expect-none [] ek ev = refl
   expect-none (x ∷ xs) ek ev =
-      ap (λ (o : Option ℕ). valueThen (placed p).refusal x.column xs o next) (ev ∙ ap (valueBy (spanned p)) ek ∙ by_key x.text)
+      ap (λ (o : Option ℕ). value_then (placed p).refusal x.column xs o next) (ev ∙ ap (value_by (spanned p)) ek ∙ by_key x.text)
 
 -- a step by the item at a place
 module _ (line : List ℕ) (at p : ℕ) (r : Next) (n : Nexts line at r) where
-  pub step_value : (v : ℕ) → some v ≡ valueBy (spanned p) r.key → Steps line (Step.Value v r.at) (expect (past_of line) (placed p) (itemsAt line at))
-  step_value v e = record { bound = n.bound; leads = λ next. expect-value (past_of line) p r.key next (itemsAt line at) (itemsAt line r.at) v n.key e n.items }
+  pub step_value : (v : ℕ) → some v ≡ value_by (spanned p) r.key → Steps line (Step.Value v r.at) (expect (past_of line) (placed p) (items_at line at))
+  step_value v e = record { bound = n.bound; leads = λ next. expect-value (past_of line) p r.key next (items_at line at) (items_at line r.at) v n.key e n.items }
 
-  pub step-none : (k : ℕ) → none ≡ valueBy (spanned p) r.key → k ≡ (placed p).refusal → Steps line (Step.Refused k r.column) (expect (past_of line) (placed p) (itemsAt line at))
+  pub step-none : (k : ℕ) → none ≡ value_by (spanned p) r.key → k ≡ (placed p).refusal → Steps line (Step.Refused k r.column) (expect (past_of line) (placed p) (items_at line at))
   step-none k e q = record {
     bound = omega arith;
     leads = λ next.
-        ap (λ (k : ℕ). refusedAt k r.column) q ∙ ap (refusedAt (placed p).refusal) n.column ∙ expect-none (past_of line) p r.key next (itemsAt line at) n.key e;
+        ap (λ (k : ℕ). refused_at k r.column) q ∙ ap (refused_at (placed p).refusal) n.column ∙ expect-none (past_of line) p r.key next (items_at line at) n.key e;
   }
 
 -- a step by a field
 module _ (line : List ℕ) (at s p : ℕ) where
-  pub field-left : (v : ℕ) → at ≤ length line → (placed p).refusal ≡ 0 → v ≡ onlyOf s → Steps line (Step.Value v at) (field (past_of line) s (placed p) (itemsAt line at))
+  pub field-left : (v : ℕ) → at ≤ length line → (placed p).refusal ≡ 0 → v ≡ only_of s → Steps line (Step.Value v at) (field (past_of line) s (placed p) (items_at line at))
   field-left v h z e =
       let w : written (placed p) ≡ false = ap not (eq-eqb (placed p).refusal 0 z) in
-      record { bound = h; leads = λ next. rw w (ap (λ (u : ℕ). next u (itemsAt line at)) e) }
+      record { bound = h; leads = λ next. rw w (ap (λ (u : ℕ). next u (items_at line at)) e) }
 
-  pub field-written : (r : Step) → ((placed p).refusal ≡ 0 → ⊥) → Steps line r (expect (past_of line) (placed p) (itemsAt line at)) → Steps line r (field (past_of line) s (placed p) (itemsAt line at))
+  pub field-written : (r : Step) → ((placed p).refusal ≡ 0 → ⊥) → Steps line r (expect (past_of line) (placed p) (items_at line at)) → Steps line r (field (past_of line) s (placed p) (items_at line at))
   field-written r z t =
       let w : written (placed p) ≡ true = ap not (ne_eqb (placed p).refusal 0 z) in
       record { bound = t.bound; leads = λ next. t.leads next ∙ rw w }
 
 -- the line's end
-pub ended-left : (past : ℕ) (xs : List Item) (k : Placed ℕ) → someLeft xs ≡ true → refusedAt 22 (columnOf past xs) ≡ ended xs k
-ended-left past [] k e = absurd (never e)
-ended-left past (x ∷ xs) k e = refl
+pub ended_left : (past : ℕ) (xs : List Item) (k : Placed ℕ) → some_left xs ≡ true → refused_at 22 (column_of past xs) ≡ ended xs k
+ended_left past [] k e = absurd (never e)
+ended_left past (x ∷ xs) k e = refl
 
-pub ended-none : (xs : List Item) (k : Placed ℕ) → someLeft xs ≡ false → k ≡ ended xs k
-ended-none [] k e = refl
-ended-none (x ∷ xs) k e = absurd (never (sym e))
+pub ended_none : (xs : List Item) (k : Placed ℕ) → some_left xs ≡ false → k ≡ ended xs k
+ended_none [] k e = refl
+ended_none (x ∷ xs) k e = absurd (never (sym e))
 
 -- the lowest value of a set, from k on
-pub lowest-here : (n k s : ℕ) → 0 < n → has s k ≡ true → k ≡ lowest n k s
-lowest-here zero k s h e = absurd (omega arith)
-lowest-here (suc n) k s h e = sym (ap (λ (b : Bool). elim b as (λ (x : Bool). ℕ) [ true ↦ k | false ↦ lowest n (suc k) s ]) e)
+pub lowest_here : (n k s : ℕ) → 0 < n → has s k ≡ true → k ≡ lowest n k s
+lowest_here zero k s h e = absurd (omega arith)
+lowest_here (suc n) k s h e = sym (ap (λ (b : Bool). elim b as (λ (x : Bool). ℕ) [ true ↦ k | false ↦ lowest n (suc k) s ]) e)
 
-pub lowest-next : (n k s : ℕ) → 0 < n → has s k ≡ false → lowest (n - 1) (k + 1) s ≡ lowest n k s
-lowest-next zero k s h e = absurd (omega arith)
-lowest-next (suc n) k s h e =
+pub lowest_next : (n k s : ℕ) → 0 < n → has s k ≡ false → lowest (n - 1) (k + 1) s ≡ lowest n k s
+lowest_next zero k s h e = absurd (omega arith)
+lowest_next (suc n) k s h e =
     let a : suc n - 1 ≡ n = omega arith in
     let b : k + 1 ≡ suc k = omega arith in
     ap (λ (m : ℕ). lowest m (k + 1) s) a
     ∙ ap (λ (j : ℕ). lowest n j s) b
     ∙ sym (ap (λ (b : Bool). elim b as (λ (x : Bool). ℕ) [ true ↦ k | false ↦ lowest n (suc k) s ]) e)
 
-pub lowest-none : (n k s : ℕ) → n ≤ 0 → 0 ≡ lowest n k s
-lowest-none zero k s h = refl
-lowest-none (suc n) k s h = absurd (omega arith)
+pub lowest_none : (n k s : ℕ) → n ≤ 0 → 0 ≡ lowest n k s
+lowest_none zero k s h = refl
+lowest_none (suc n) k s h = absurd (omega arith)

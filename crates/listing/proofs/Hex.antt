@@ -1,5 +1,5 @@
 -- Immediate data: its line gives the data, and a line that gives data is that data's line once runs of blanks are made one and the ends trimmed.
--- The laws, in this order: `data-print-read`, `data-read-print`.
+-- The laws, in this order: `data_print_read`, `data_read_print`.
 use mathlib.Core.Path.{◌≡◌, refl, sym, ap, ◌∙◌}
 use mathlib.Core.Bool.{Bool, true, false}
 use mathlib.Core.List.{List, [], ◌∷◌, append-nil}
@@ -12,39 +12,39 @@ use lib.ListN.{length, take, drop, get_or, length-take, length-drop}
 use lib.Seq.{drop-cons, sets}
 use borrow.Author.Tests.{ne_eqb, lt-ltb, le-ltb, ltb-true, ltb-false}
 use Rattle.choice.specs.Pick.{pick}
-use Rattle.choice.specs.Tells.{accepted, refused, acceptedWhole, refusedAt}
+use Rattle.choice.specs.Tells.{accepted, refused, accepted_whole, refused_at}
 use Rattle.choice.specs.Text.{digit, hex}
 use Rattle.choice.proofs.Spans.{span, below, never, both}
 use Rattle.choice.proofs.Tells.{whole-one, whole-refused}
 use Rattle.listing.specs.Items.{Item, items_of, normal, joined}
-use Rattle.listing.specs.Lines.{valueThen, ended, past_of}
-use Rattle.listing.specs.Data.{dataLine, noDigit, digitOf, withDigit, dataIn, dataFrom, data_of}
-use Rattle.listing.specs.Answers.{outcome, dataInto}
-use Rattle.listing.specs.Keys.{key_of, textOfKey}
-use Rattle.listing.specs.Reading.{columnOf, firstText, after}
-use Rattle.listing.proofs.Bytes.{proper, key_back, text-of}
-use Rattle.listing.proofs.Prints.{fill-short, fill-room}
-use Rattle.listing.proofs.Splits.{sound, texts, joined_items, normal-items}
+use Rattle.listing.specs.Lines.{value_then, ended, past_of}
+use Rattle.listing.specs.Data.{data_line, no_digit, digit_of, with_digit, data_in, data_from, data_of}
+use Rattle.listing.specs.Answers.{outcome, data_into}
+use Rattle.listing.specs.Keys.{key_of, text_of_key}
+use Rattle.listing.specs.Reading.{column_of, first_text, after}
+use Rattle.listing.proofs.Bytes.{proper, key_back, text_of_lem}
+use Rattle.listing.proofs.Prints.{fill_short, fill_room}
+use Rattle.listing.proofs.Splits.{sound, texts, joined_items, normal_items}
 
 -- digits there and back
-proper-test : T (span 0 16 (λ d. elim (ltb 0 (digit d)) [ true ↦ ltb (digit d) 256 | false ↦ false ]))
-proper-test = tt
+proper_test : T (span 0 16 (λ d. elim (ltb 0 (digit d)) [ true ↦ ltb (digit d) 256 | false ↦ false ]))
+proper_test = tt
 
-back-test : T (span 0 16 (λ d. eqb (digitOf (digit d)) d))
-back-test = tt
+back_test : T (span 0 16 (λ d. eqb (digit_of (digit d)) d))
+back_test = tt
 
-digit-back : (d : ℕ) → d < 16 → digitOf (digit d) ≡ d
-digit-back d h = eqb→eq (digitOf (digit d)) d (below (λ d. eqb (digitOf (digit d)) d) 16 d back-test h)
+digit_back : (d : ℕ) → d < 16 → digit_of (digit d) ≡ d
+digit_back d h = eqb→eq (digit_of (digit d)) d (below (λ d. eqb (digit_of (digit d)) d) 16 d back_test h)
 
-sound-test : T (span 0 16 (λ d. ltb 32 (digit d)))
-sound-test = tt
+sound_test : T (span 0 16 (λ d. ltb 32 (digit d)))
+sound_test = tt
 
-byte-back : (b : ℕ) → digitOf b < 16 → digit (digitOf b) ≡ b
-byte-back b h = by-test (ltb b 48) (ltb b 58) (ltb b 65) (ltb b 71) refl refl refl refl h
+byte_back : (b : ℕ) → digit_of b < 16 → digit (digit_of b) ≡ b
+byte_back b h = by-test (ltb b 48) (ltb b 58) (ltb b 65) (ltb b 71) refl refl refl refl h
   where
     by-test : (p q r s : Bool) → ltb b 48 ≡ p → ltb b 58 ≡ q → ltb b 65 ≡ r → ltb b 71 ≡ s
-        → pick p noDigit (pick q (b - 48) (pick r noDigit (pick s (b - 55) noDigit))) < 16
-        → digit (pick p noDigit (pick q (b - 48) (pick r noDigit (pick s (b - 55) noDigit)))) ≡ b
+        → pick p no_digit (pick q (b - 48) (pick r no_digit (pick s (b - 55) no_digit))) < 16
+        → digit (pick p no_digit (pick q (b - 48) (pick r no_digit (pick s (b - 55) no_digit)))) ≡ b
     by-test true q r s ep eq er es h = absurd (omega arith)
     by-test false true r s ep eq er es h =
         let l = ltb-false b 48 ep in
@@ -59,7 +59,7 @@ byte-back b h = by-test (ltb b 48) (ltb b 58) (ltb b 65) (ltb b 71) refl refl re
 
 -- the number of four digits
 abbrev pub chain : ℕ → ℕ → ℕ → ℕ → Option ℕ
-chain a b c d = withDigit (withDigit (withDigit (withDigit (some 0) a) b) c) d
+chain a b c d = with_digit (with_digit (with_digit (with_digit (some 0) a) b) c) d
 
 module _ (a b c d : ℕ) where
   pub none-a : 16 ≤ a → 0x10000 ≡ Option.get_or (chain a b c d) 0x10000
@@ -70,8 +70,8 @@ module _ (a b c d : ℕ) where
     none-b h = rw (lt-ltb a 16 ha, le-ltb b 16 h)
 
     module _ (hb : b < 16) where
-      pub none-c : 16 ≤ c → 0x10000 ≡ Option.get_or (chain a b c d) 0x10000
-      none-c h = rw (lt-ltb a 16 ha, lt-ltb b 16 hb, le-ltb c 16 h)
+      pub none_c : 16 ≤ c → 0x10000 ≡ Option.get_or (chain a b c d) 0x10000
+      none_c h = rw (lt-ltb a 16 ha, lt-ltb b 16 hb, le-ltb c 16 h)
 
       module _ (hc : c < 16) where
         pub none-d : 16 ≤ d → 0x10000 ≡ Option.get_or (chain a b c d) 0x10000
@@ -89,39 +89,39 @@ record WithDigit (o : Option ℕ) (d x : ℕ) : Type 0 where
   small : d < 16
   is : x ≡ 16 * before + d
 
-with-some : (o : Option ℕ) (d x : ℕ) → withDigit o d ≡ some x → WithDigit o d x
-with-some none d x e = absurd (some-ne-none x (sym e))
-with-some (some y) d x e = by-test (ltb d noDigit) refl e
+with_some : (o : Option ℕ) (d x : ℕ) → with_digit o d ≡ some x → WithDigit o d x
+with_some none d x e = absurd (some-ne-none x (sym e))
+with_some (some y) d x e = by-test (ltb d no_digit) refl e
   where
-    by-test : (b : Bool) → ltb d noDigit ≡ b → pick b (some (16 * y + d)) none ≡ some x → WithDigit (some y) d x
+    by-test : (b : Bool) → ltb d no_digit ≡ b → pick b (some (16 * y + d)) none ≡ some x → WithDigit (some y) d x
     by-test true q e = record { before = y; was = refl; small = ltb-true d 16 q; is = sym (some-injective (16 * y + d) x e) }
     by-test false q e = absurd (some-ne-none x (sym e))
 
 pub record Four (a b c d x : ℕ) : Type 0 where
-  pub in-a : a < 16
+  pub in_a : a < 16
   pub in_b : b < 16
   pub in_c : c < 16
-  pub in-d : d < 16
+  pub in_d : d < 16
   pub number : x ≡ 16 * (16 * (16 * a + b) + c) + d
 
-chain-some : (a b c d x : ℕ) → chain a b c d ≡ some x → Four a b c d x
-chain-some a b c d x e =
-    let w = with-some _ d x e in
-    let v = with-some _ c w.before w.was in
-    let u = with-some _ b v.before v.was in
-    let t = with-some (some 0) a u.before u.was in
+chain_some : (a b c d x : ℕ) → chain a b c d ≡ some x → Four a b c d x
+chain_some a b c d x e =
+    let w = with_some _ d x e in
+    let v = with_some _ c w.before w.was in
+    let u = with_some _ b v.before v.was in
+    let t = with_some (some 0) a u.before u.was in
     let z : 0 ≡ t.before = some-injective 0 t.before t.was in
-    record { in-a = t.small; in_b = u.small; in_c = v.small; in-d = w.small; number = omega (arith, w.is, v.is, u.is, t.is, z) }
+    record { in_a = t.small; in_b = u.small; in_c = v.small; in_d = w.small; number = omega (arith, w.is, v.is, u.is, t.is, z) }
 
-pub data-small : (t : List ℕ) (x : ℕ) → dataIn t ≡ some x → x < 0x10000
-data-small [] x e = absurd (some-ne-none x (sym e))
-data-small (a ∷ []) x e = absurd (some-ne-none x (sym e))
-data-small (a ∷ b ∷ []) x e = absurd (some-ne-none x (sym e))
-data-small (a ∷ b ∷ c ∷ []) x e = absurd (some-ne-none x (sym e))
-data-small (a ∷ b ∷ c ∷ d ∷ []) x e =
-    let f = chain-some (digitOf a) (digitOf b) (digitOf c) (digitOf d) x e in
-    omega (arith, f.in-a, f.in_b, f.in_c, f.in-d, f.number)
-data-small (a ∷ b ∷ c ∷ d ∷ e' ∷ t) x e = absurd (some-ne-none x (sym e))
+pub data_small : (t : List ℕ) (x : ℕ) → data_in t ≡ some x → x < 0x10000
+data_small [] x e = absurd (some-ne-none x (sym e))
+data_small (a ∷ []) x e = absurd (some-ne-none x (sym e))
+data_small (a ∷ b ∷ []) x e = absurd (some-ne-none x (sym e))
+data_small (a ∷ b ∷ c ∷ []) x e = absurd (some-ne-none x (sym e))
+data_small (a ∷ b ∷ c ∷ d ∷ []) x e =
+    let f = chain_some (digit_of a) (digit_of b) (digit_of c) (digit_of d) x e in
+    omega (arith, f.in_a, f.in_b, f.in_c, f.in_d, f.number)
+data_small (a ∷ b ∷ c ∷ d ∷ e' ∷ t) x e = absurd (some-ne-none x (sym e))
 
 -- the four bytes at an index
 pub four : (line : List ℕ) (s : ℕ) → s + 4 ≤ length line
@@ -140,37 +140,37 @@ four line s h =
     ∙ ap (λ (l : List ℕ). get_or line (suc (suc s)) 0 ∷ l) (drop-cons line (suc (suc (suc s))) 0 (omega arith))))))
 
 -- an item of another length is no data
-not-four : (t : List ℕ) → (length t ≡ 4 → ⊥) → dataIn t ≡ none
-not-four [] h = refl
-not-four (a ∷ []) h = refl
-not-four (a ∷ b ∷ []) h = refl
-not-four (a ∷ b ∷ c ∷ []) h = refl
-not-four (a ∷ b ∷ c ∷ d ∷ []) h = absurd (h refl)
-not-four (a ∷ b ∷ c ∷ d ∷ e ∷ t) h = refl
+not_four : (t : List ℕ) → (length t ≡ 4 → ⊥) → data_in t ≡ none
+not_four [] h = refl
+not_four (a ∷ []) h = refl
+not_four (a ∷ b ∷ []) h = refl
+not_four (a ∷ b ∷ c ∷ []) h = refl
+not_four (a ∷ b ∷ c ∷ d ∷ []) h = absurd (h refl)
+not_four (a ∷ b ∷ c ∷ d ∷ e ∷ t) h = refl
 
 -- the first item is no data, or it is
-no-data : (past column : ℕ) (t : List ℕ) (xs : List Item) → column ≡ columnOf past xs → firstText xs ≡ t → dataIn t ≡ none → refusedAt 21 column ≡ dataFrom past xs
-no-data past column t [] ec et ed = ap (refusedAt 21) ec
-no-data past column t (x ∷ xs) ec et ed =
-    ap (refusedAt 21) ec ∙ sym (ap (λ (o : Option ℕ). valueThen 21 x.column xs o (λ d xs. ended xs (acceptedWhole d))) (ap dataIn et ∙ ed))
+no_data : (past column : ℕ) (t : List ℕ) (xs : List Item) → column ≡ column_of past xs → first_text xs ≡ t → data_in t ≡ none → refused_at 21 column ≡ data_from past xs
+no_data past column t [] ec et ed = ap (refused_at 21) ec
+no_data past column t (x ∷ xs) ec et ed =
+    ap (refused_at 21) ec ∙ sym (ap (λ (o : Option ℕ). value_then 21 x.column xs o (λ d xs. ended xs (accepted_whole d))) (ap data_in et ∙ ed))
 
-pub some-data : (past : ℕ) (t : List ℕ) (d : ℕ) (xs rest : List Item) → firstText xs ≡ t → dataIn t ≡ some d → rest ≡ after xs → ended rest (acceptedWhole d) ≡ dataFrom past xs
-some-data past t d [] rest et ed er = absurd (some-ne-none d (sym ed ∙ sym (ap dataIn et)))
-some-data past t d (x ∷ xs) rest et ed er =
-    ap (λ (ys : List Item). ended ys (acceptedWhole d)) er
-    ∙ sym (ap (λ (o : Option ℕ). valueThen 21 x.column xs o (λ d xs. ended xs (acceptedWhole d))) (ap dataIn et ∙ ed))
+pub some_data : (past : ℕ) (t : List ℕ) (d : ℕ) (xs rest : List Item) → first_text xs ≡ t → data_in t ≡ some d → rest ≡ after xs → ended rest (accepted_whole d) ≡ data_from past xs
+some_data past t d [] rest et ed er = absurd (some-ne-none d (sym ed ∙ sym (ap data_in et)))
+some_data past t d (x ∷ xs) rest et ed er =
+    ap (λ (ys : List Item). ended ys (accepted_whole d)) er
+    ∙ sym (ap (λ (o : Option ℕ). value_then 21 x.column xs o (λ d xs. ended xs (accepted_whole d))) (ap data_in et ∙ ed))
 
 -- the ways out of the reader of data
-module _ (line : List ℕ) (s e column : ℕ) (from : s ≤ e) (bound : e ≤ length line) (ec : column ≡ columnOf (past_of line) (items_of line))
-    (et : firstText (items_of line) ≡ take (e - s) (drop s line)) where
-  pub other_length : (e - s ≡ 4 → ⊥) → refusedAt 21 column ≡ data_of line
+module _ (line : List ℕ) (s e column : ℕ) (from : s ≤ e) (bound : e ≤ length line) (ec : column ≡ column_of (past_of line) (items_of line))
+    (et : first_text (items_of line) ≡ take (e - s) (drop s line)) where
+  pub other_length : (e - s ≡ 4 → ⊥) → refused_at 21 column ≡ data_of line
   unfolding data_of
   other_length h =
       let l : length (take (e - s) (drop s line)) ≡ e - s = simp (length-take, length-drop) (omega arith) in
-      no-data (past_of line) column (take (e - s) (drop s line)) (items_of line) ec et (not-four (take (e - s) (drop s line)) (λ q. h (sym l ∙ q)))
+      no_data (past_of line) column (take (e - s) (drop s line)) (items_of line) ec et (not_four (take (e - s) (drop s line)) (λ q. h (sym l ∙ q)))
 
-  module _ (size : e - s ≡ 4) (x : ℕ) (ed : x ≡ Option.get_or (dataIn (take 4 (drop s line))) 0x10000) where
-    is-text : firstText (items_of line) ≡ take 4 (drop s line)
+  module _ (size : e - s ≡ 4) (x : ℕ) (ed : x ≡ Option.get_or (data_in (take 4 (drop s line))) 0x10000) where
+    is-text : first_text (items_of line) ≡ take 4 (drop s line)
     is-text = et ∙ ap (λ (n : ℕ). take n (drop s line)) size
 
     small : (o : Option ℕ) → x ≡ Option.get_or o 0x10000 → x < 0x10000 → o ≡ some x
@@ -181,33 +181,33 @@ module _ (line : List ℕ) (s e column : ℕ) (from : s ≤ e) (bound : e ≤ le
     large none q h l = refl
     large (some y) q h l = absurd (omega (arith, l y refl))
 
-    pub not-digits : 0x10000 ≤ x → refusedAt 21 column ≡ data_of line
+    pub not-digits : 0x10000 ≤ x → refused_at 21 column ≡ data_of line
     unfolding data_of
-    not-digits h = no-data (past_of line) column _ (items_of line) ec is-text (large _ ed h (data-small (take 4 (drop s line))))
+    not-digits h = no_data (past_of line) column _ (items_of line) ec is-text (large _ ed h (data_small (take 4 (drop s line))))
 
-    pub are-digits : x < 0x10000 → (rest : List Item) → rest ≡ after (items_of line) → ended rest (acceptedWhole x) ≡ data_of line
+    pub are-digits : x < 0x10000 → (rest : List Item) → rest ≡ after (items_of line) → ended rest (accepted_whole x) ≡ data_of line
     unfolding data_of
-    are-digits h rest er = some-data (past_of line) _ x (items_of line) rest is-text (small _ ed h) er
+    are-digits h rest er = some_data (past_of line) _ x (items_of line) rest is-text (small _ ed h) er
 
 -- the four bytes at an index, digit by digit
 module _ (line : List ℕ) (s : ℕ) (h : s + 4 ≤ length line) where
   abbrev x₀ : ℕ
-  x₀ = digitOf (get_or line s 0)
+  x₀ = digit_of (get_or line s 0)
 
   abbrev x₁ : ℕ
-  x₁ = digitOf (get_or line (s + 1) 0)
+  x₁ = digit_of (get_or line (s + 1) 0)
 
   abbrev x₂ : ℕ
-  x₂ = digitOf (get_or line (s + 2) 0)
+  x₂ = digit_of (get_or line (s + 2) 0)
 
   abbrev x₃ : ℕ
-  x₃ = digitOf (get_or line (s + 3) 0)
+  x₃ = digit_of (get_or line (s + 3) 0)
 
   abbrev Is : ℕ → Type 0
-  Is r = r ≡ Option.get_or (dataIn (take 4 (drop s line))) 0x10000
+  Is r = r ≡ Option.get_or (data_in (take 4 (drop s line))) 0x10000
 
   so : (r : ℕ) → r ≡ Option.get_or (chain x₀ x₁ x₂ x₃) 0x10000 → Is r
-  so r e = e ∙ sym (ap (λ (t : List ℕ). Option.get_or (dataIn t) 0x10000) (four line s h))
+  so r e = e ∙ sym (ap (λ (t : List ℕ). Option.get_or (data_in t) 0x10000) (four line s h))
 
   module _ (a : ℕ) (ea : a ≡ x₀) where
     pub at_a : 16 ≤ a → Is 0x10000
@@ -219,7 +219,7 @@ module _ (line : List ℕ) (s : ℕ) (h : s + 4 ≤ length line) where
 
       module _ (lb : b < 16) (c : ℕ) (ec : c ≡ x₂) where
         pub at_c : 16 ≤ c → Is 0x10000
-        at_c l = so 0x10000 (none-c x₀ x₁ x₂ x₃ (omega (arith, ea)) (omega (arith, eb)) (omega (arith, ec)))
+        at_c l = so 0x10000 (none_c x₀ x₁ x₂ x₃ (omega (arith, ea)) (omega (arith, eb)) (omega (arith, ec)))
 
         module _ (lc : c < 16) (d : ℕ) (ed : d ≡ x₃) where
           pub at-d : 16 ≤ d → Is 0x10000
@@ -247,12 +247,12 @@ module _ (d : ℕ) where
   abbrev spelt : List ℕ
   spelt = digit d₀ ∷ digit d₁ ∷ digit d₂ ∷ digit d₃ ∷ []
 
-  pub spelt_is : dataLine d ≡ spelt
+  pub spelt_is : data_line d ≡ spelt
   unfolding hex
   spelt_is = refl
 
   -- its key, and the text of that key
-  pub spelt-key : digit d₀ + 256 * (digit d₁ + 256 * (digit d₂ + 256 * digit d₃)) ≡ key_of (dataLine d)
+  pub spelt-key : digit d₀ + 256 * (digit d₁ + 256 * (digit d₂ + 256 * digit d₃)) ≡ key_of (data_line d)
   spelt-key = key-four (digit d₀) (digit d₁) (digit d₂) (digit d₃) ∙ ap key_of (sym spelt_is)
     where
       key-four : (a b c d : ℕ) → a + 256 * (b + 256 * (c + 256 * d)) ≡ key_of (a ∷ b ∷ c ∷ d ∷ [])
@@ -260,7 +260,7 @@ module _ (d : ℕ) where
 
   digit-proper : (x : ℕ) → x < 16 → (0 < digit x) × (digit x < 256)
   digit-proper x l =
-      let b = both (ltb 0 (digit x)) (ltb (digit x) 256) (below (λ d. elim (ltb 0 (digit d)) [ true ↦ ltb (digit d) 256 | false ↦ false ]) 16 x proper-test l) in
+      let b = both (ltb 0 (digit x)) (ltb (digit x) 256) (below (λ d. elim (ltb 0 (digit d)) [ true ↦ ltb (digit d) 256 | false ↦ false ]) 16 x proper_test l) in
       (ltb→lt 0 (digit x) b.0, ltb→lt (digit x) 256 b.1)
 
   spelt-proper : T (proper spelt)
@@ -278,98 +278,98 @@ module _ (d : ℕ) where
           by-test true false ep eq = absurd (never eq)
           by-test false q ep eq = absurd (never ep)
 
-  pub key-data : textOfKey (key_of (dataLine d)) ≡ dataLine d
+  pub key-data : text_of_key (key_of (data_line d)) ≡ data_line d
   key-data =
-      ap (λ (t : List ℕ). textOfKey (key_of t)) spelt_is
-      ∙ text-of (key_of spelt)
+      ap (λ (t : List ℕ). text_of_key (key_of t)) spelt_is
+      ∙ text_of_lem (key_of spelt)
       ∙ key_back 8 spelt spelt-proper (omega arith)
       ∙ sym spelt_is
 
-  pub data-long : length (dataLine d) ≡ 4
+  pub data-long : length (data_line d) ≡ 4
   data-long = ap length spelt_is
 
   -- the ways out of the call
   module _ (before : List ℕ) where
-    pub data-short : length before < 4 → outcome (refused 3) before ≡ dataInto d before
-    unfolding dataInto
-    data-short l = fill-short (dataLine d) before (omega (arith, data-long))
+    pub data-short : length before < 4 → outcome (refused 3) before ≡ data_into d before
+    unfolding data_into
+    data-short l = fill_short (data_line d) before (omega (arith, data-long))
 
-    pub data-filled : (after : List ℕ) → 4 ≤ length before → after ≡ sets before 0 (dataLine d) → outcome (accepted 4) after ≡ dataInto d before
-    unfolding dataInto
-    data-filled after l e = fill-room (dataLine d) before 4 after (sym data-long) l e
+    pub data-filled : (after : List ℕ) → 4 ≤ length before → after ≡ sets before 0 (data_line d) → outcome (accepted 4) after ≡ data_into d before
+    unfolding data_into
+    data-filled after l e = fill_room (data_line d) before 4 after (sym data-long) l e
 
 module _ (d : ℕ) (h : d < 0x10000) where
-  spelt-data : dataIn (spelt d) ≡ some d
+  spelt-data : data_in (spelt d) ≡ some d
   spelt-data =
       let n : 16 * (16 * (16 * (d₀ d) + (d₁ d)) + (d₂ d)) + (d₃ d) ≡ d = omega arith in
-      rw (digit-back (d₀ d) (omega arith), digit-back (d₁ d) (omega arith), digit-back (d₂ d) (omega arith), digit-back (d₃ d) (omega arith))
+      rw (digit_back (d₀ d) (omega arith), digit_back (d₁ d) (omega arith), digit_back (d₂ d) (omega arith), digit_back (d₃ d) (omega arith))
       (all_digits (d₀ d) (d₁ d) (d₂ d) (d₃ d) (omega arith) (omega arith) (omega arith) (omega arith) ∙ ap some n)
 
-  no-blank : (x : ℕ) → x < 16 → eqb (digit x) 32 ≡ false
-  no-blank x l = ne_eqb (digit x) 32 (λ e. omega (arith, ltb→lt 32 (digit x) (below (λ d. ltb 32 (digit d)) 16 x sound-test l)))
+  no_blank : (x : ℕ) → x < 16 → eqb (digit x) 32 ≡ false
+  no_blank x l = ne_eqb (digit x) 32 (λ e. omega (arith, ltb→lt 32 (digit x) (below (λ d. ltb 32 (digit d)) 16 x sound_test l)))
 
   spelt-sound : T (sound (spelt d))
   spelt-sound = four-clean (eqb (digit (d₀ d)) 32) (eqb (digit (d₁ d)) 32) (eqb (digit (d₂ d)) 32) (eqb (digit (d₃ d)) 32)
-      (no-blank (d₀ d) (omega arith)) (no-blank (d₁ d) (omega arith)) (no-blank (d₂ d) (omega arith)) (no-blank (d₃ d) (omega arith))
+      (no_blank (d₀ d) (omega arith)) (no_blank (d₁ d) (omega arith)) (no_blank (d₂ d) (omega arith)) (no_blank (d₃ d) (omega arith))
     where
       four-clean : (p q r s : Bool) → p ≡ false → q ≡ false → r ≡ false → s ≡ false
           → T (elim p [ true ↦ false | false ↦ elim q [ true ↦ false | false ↦ elim r [ true ↦ false | false ↦ elim s [ true ↦ false | false ↦ true ] ] ] ])
       four-clean p q r s ep eq er es = rw (ep, eq, er, es) tt
 
-from-texts : (past d : ℕ) (t : List ℕ) (xs : List Item) → texts xs ≡ t ∷ [] → dataIn t ≡ some d → dataFrom past xs ≡ acceptedWhole d
-from-texts past d t [] e q = absurd (let z : ◌≡◌ {A = ℕ} 0 1 = cc in omega arith)
-from-texts past d t (x ∷ []) e q =
+from_texts : (past d : ℕ) (t : List ℕ) (xs : List Item) → texts xs ≡ t ∷ [] → data_in t ≡ some d → data_from past xs ≡ accepted_whole d
+from_texts past d t [] e q = absurd (let z : ◌≡◌ {A = ℕ} 0 1 = cc in omega arith)
+from_texts past d t (x ∷ []) e q =
     let h : x.text ≡ t = cc in
-    ap (λ (o : Option ℕ). valueThen 21 x.column [] o (λ d xs. ended xs (acceptedWhole d))) (ap dataIn h ∙ q)
-from-texts past d t (x ∷ y ∷ xs) e q = absurd (let z : ◌≡◌ {A = ℕ} 1 2 = cc in omega arith)
+    ap (λ (o : Option ℕ). value_then 21 x.column [] o (λ d xs. ended xs (accepted_whole d))) (ap data_in h ∙ q)
+from_texts past d t (x ∷ y ∷ xs) e q = absurd (let z : ◌≡◌ {A = ℕ} 1 2 = cc in omega arith)
 
 -- print, then read, gives the data
-pub data-print-read : (d : ℕ) → d < 0x10000 → data_of (dataLine d) ≡ acceptedWhole d
+pub data_print_read : (d : ℕ) → d < 0x10000 → data_of (data_line d) ≡ accepted_whole d
 unfolding data_of
-data-print-read d h =
+data_print_read d h =
     ap data_of (spelt_is d)
-    ∙ from-texts (past_of (spelt d)) d (spelt d) (items_of (spelt d)) (joined_items (spelt d ∷ []) (one-sound (sound (spelt d)) (spelt-sound d h))) (spelt-data d h)
+    ∙ from_texts (past_of (spelt d)) d (spelt d) (items_of (spelt d)) (joined_items (spelt d ∷ []) (one-sound (sound (spelt d)) (spelt-sound d h))) (spelt-data d h)
   where
     one-sound : (b : Bool) → T b → T (elim b [ true ↦ true | false ↦ false ])
     one-sound true t = tt
     one-sound false t = t
 
 -- the text of data that was read
-hex-back : (t : List ℕ) (d : ℕ) → dataIn t ≡ some d → dataLine d ≡ t
+hex_back : (t : List ℕ) (d : ℕ) → data_in t ≡ some d → data_line d ≡ t
 unfolding hex
-hex-back [] d e = absurd (some-ne-none d (sym e))
-hex-back (a ∷ []) d e = absurd (some-ne-none d (sym e))
-hex-back (a ∷ b ∷ []) d e = absurd (some-ne-none d (sym e))
-hex-back (a ∷ b ∷ c ∷ []) d e = absurd (some-ne-none d (sym e))
-hex-back (a ∷ b ∷ c ∷ f ∷ []) d e =
-    let w = chain-some (digitOf a) (digitOf b) (digitOf c) (digitOf f) d e in
-    let e₀ : d / 16 / 16 / 16 % 16 ≡ digitOf a = omega (arith, w.in-a, w.in_b, w.in_c, w.in-d, w.number) in
-    let e₁ : d / 16 / 16 % 16 ≡ digitOf b = omega (arith, w.in-a, w.in_b, w.in_c, w.in-d, w.number) in
-    let e₂ : d / 16 % 16 ≡ digitOf c = omega (arith, w.in_b, w.in_c, w.in-d, w.number) in
-    let e₃ : d % 16 ≡ digitOf f = omega (arith, w.in_c, w.in-d, w.number) in
+hex_back [] d e = absurd (some-ne-none d (sym e))
+hex_back (a ∷ []) d e = absurd (some-ne-none d (sym e))
+hex_back (a ∷ b ∷ []) d e = absurd (some-ne-none d (sym e))
+hex_back (a ∷ b ∷ c ∷ []) d e = absurd (some-ne-none d (sym e))
+hex_back (a ∷ b ∷ c ∷ f ∷ []) d e =
+    let w = chain_some (digit_of a) (digit_of b) (digit_of c) (digit_of f) d e in
+    let e₀ : d / 16 / 16 / 16 % 16 ≡ digit_of a = omega (arith, w.in_a, w.in_b, w.in_c, w.in_d, w.number) in
+    let e₁ : d / 16 / 16 % 16 ≡ digit_of b = omega (arith, w.in_a, w.in_b, w.in_c, w.in_d, w.number) in
+    let e₂ : d / 16 % 16 ≡ digit_of c = omega (arith, w.in_b, w.in_c, w.in_d, w.number) in
+    let e₃ : d % 16 ≡ digit_of f = omega (arith, w.in_c, w.in_d, w.number) in
     same-four (digit (d / 16 / 16 / 16 % 16)) (digit (d / 16 / 16 % 16)) (digit (d / 16 % 16)) (digit (d % 16)) a b c f
-    (ap digit e₀ ∙ byte-back a w.in-a) (ap digit e₁ ∙ byte-back b w.in_b) (ap digit e₂ ∙ byte-back c w.in_c) (ap digit e₃ ∙ byte-back f w.in-d)
+    (ap digit e₀ ∙ byte_back a w.in_a) (ap digit e₁ ∙ byte_back b w.in_b) (ap digit e₂ ∙ byte_back c w.in_c) (ap digit e₃ ∙ byte_back f w.in_d)
   where
     same-four : (x y z w a b c d : ℕ) → x ≡ a → y ≡ b → z ≡ c → w ≡ d → x ∷ y ∷ z ∷ w ∷ [] ≡ a ∷ b ∷ c ∷ d ∷ []
     same-four x y z w a b c d p q r s = cc
-hex-back (a ∷ b ∷ c ∷ f ∷ g ∷ t) d e = absurd (some-ne-none d (sym e))
+hex_back (a ∷ b ∷ c ∷ f ∷ g ∷ t) d e = absurd (some-ne-none d (sym e))
 
 -- a line that gives data prints as its normal form
-pub data-read-print : (line : List ℕ) (d : ℕ) → data_of line ≡ acceptedWhole d → dataLine d ≡ normal line
+pub data_read_print : (line : List ℕ) (d : ℕ) → data_of line ≡ accepted_whole d → data_line d ≡ normal line
 unfolding data_of
-data-read-print line d e = by-items (items_of line) refl e
+data_read_print line d e = by-items (items_of line) refl e
   where
-    by-rest : (x : Item) (xs : List Item) (v : ℕ) → items_of line ≡ x ∷ xs → dataIn x.text ≡ some v → ended xs (acceptedWhole v) ≡ acceptedWhole d → dataLine d ≡ normal line
+    by-rest : (x : Item) (xs : List Item) (v : ℕ) → items_of line ≡ x ∷ xs → data_in x.text ≡ some v → ended xs (accepted_whole v) ≡ accepted_whole d → data_line d ≡ normal line
     by-rest x [] v i q e =
-        hex-back x.text d (q ∙ ap some (whole-one v d e))
-        ∙ sym (normal-items line ∙ ap (λ (xs : List Item). joined (texts xs)) i ∙ append-nil x.text)
+        hex_back x.text d (q ∙ ap some (whole-one v d e))
+        ∙ sym (normal_items line ∙ ap (λ (xs : List Item). joined (texts xs)) i ∙ append-nil x.text)
     by-rest x (y ∷ xs) v i q e = absurd (whole-refused d 22 y.column (sym e))
 
-    by_value : (x : Item) (xs : List Item) (o : Option ℕ) → items_of line ≡ x ∷ xs → dataIn x.text ≡ o
-        → valueThen 21 x.column xs o (λ d xs. ended xs (acceptedWhole d)) ≡ acceptedWhole d → dataLine d ≡ normal line
+    by_value : (x : Item) (xs : List Item) (o : Option ℕ) → items_of line ≡ x ∷ xs → data_in x.text ≡ o
+        → value_then 21 x.column xs o (λ d xs. ended xs (accepted_whole d)) ≡ accepted_whole d → data_line d ≡ normal line
     by_value x xs none i q e = absurd (whole-refused d 21 x.column (sym e))
     by_value x xs (some v) i q e = by-rest x xs v i q e
 
-    by-items : (xs : List Item) → items_of line ≡ xs → dataFrom (past_of line) xs ≡ acceptedWhole d → dataLine d ≡ normal line
+    by-items : (xs : List Item) → items_of line ≡ xs → data_from (past_of line) xs ≡ accepted_whole d → data_line d ≡ normal line
     by-items [] i e = absurd (whole-refused d 21 (past_of line) (sym e))
-    by-items (x ∷ xs) i e = by_value x xs (dataIn x.text) i refl e
+    by-items (x ∷ xs) i e = by_value x xs (data_in x.text) i refl e

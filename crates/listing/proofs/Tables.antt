@@ -1,6 +1,6 @@
 -- What the lists of names have in common, each computed once: the names of one list are distinct, have no blank and fit a key; and a family
 -- writes just the values that its row has.
--- The laws, in this order: `family-good`, `mode-good`, `good-a`, `good-b`, `good-c`, `writes-a`, `writes-b`, `writes-c`.
+-- The laws, in this order: `family_good`, `mode_good`, `good-a`, `good-b`, `good-c`, `writes-a`, `writes-b`, `writes-c`.
 use mathlib.Core.Path.{◌≡◌, refl, sym, ap, ◌∙◌, subst}
 use mathlib.Core.Bool.{Bool, true, false, not}
 use mathlib.Core.List.{List, [], ◌∷◌}
@@ -12,20 +12,20 @@ use lib.ListN.{length}
 use borrow.Author.Tests.{eqb-true, lt-ltb, ltb-true}
 use Rattle.choice.specs.Along.{same}
 use Rattle.choice.proofs.Spans.{never, holds, both, span, below}
-use Rattle.choice.proofs.Decisions.{same-eq}
+use Rattle.choice.proofs.Decisions.{same_eq}
 use Rattle.isa.specs.Sets.{has}
 use Rattle.isa.specs.Table.{row_at, no_row}
 use Rattle.listing.specs.Names.{Name}
-use Rattle.listing.specs.Places.{Place, written, atFamily, atMode, form_of, sameText, textIn, valueIn}
-use Rattle.listing.specs.Lines.{text_of, onlyOf, Writes, shown, left}
-use Rattle.listing.specs.Keys.{key_of, keyBytes, textOfKey, keyIn}
-use Rattle.listing.proofs.Bytes.{proper, key_back, text-of}
+use Rattle.listing.specs.Places.{Place, written, at_family, at_mode, form_of, same_text, text_in, value_in}
+use Rattle.listing.specs.Lines.{text_of, only_of, Writes, shown, left}
+use Rattle.listing.specs.Keys.{key_of, key_bytes, text_of_key, key_in}
+use Rattle.listing.proofs.Bytes.{proper, key_back, text_of_lem}
 use Rattle.listing.proofs.Splits.{sound}
 use Rattle.listing.specs.Items.{full}
 
 -- no field has a value that is as high
-abbrev pub mostValues : ℕ
-mostValues = 32
+abbrev pub most_values : ℕ
+most_values = 32
 
 abbrev pub every : (Name → Bool) → List Name → Bool
 every test [] = true
@@ -43,12 +43,12 @@ fits x = elim (proper x.text) [ true ↦ elim (leb (length x.text) 7) [ true ↦
 abbrev distinct : List Name → Name → Bool
 distinct xs x =
     elim (sound x.text) [
-      | true ↦ elim (sameText (textIn xs x.value) x.text) [ true ↦ found (valueIn xs x.text) x.value | false ↦ false ]
+      | true ↦ elim (same_text (text_in xs x.value) x.text) [ true ↦ found (value_in xs x.text) x.value | false ↦ false ]
       | false ↦ false
     ]
 
 abbrev sane : List Name → Name → Bool
-sane xs x = elim (fits x) [ true ↦ elim (ltb x.value mostValues) [ true ↦ distinct xs x | false ↦ false ] | false ↦ false ]
+sane xs x = elim (fits x) [ true ↦ elim (ltb x.value most_values) [ true ↦ distinct xs x | false ↦ false ] | false ↦ false ]
 
 abbrev empty : List Name → Bool
 empty [] = true
@@ -58,25 +58,25 @@ empty (x ∷ xs) = false
 abbrev pub good : Place → Bool
 good p = elim (every (sane p.names) p.names) [ true ↦ same (written p) (not (empty p.names)) | false ↦ false ]
 
-pub family-good : T (good atFamily)
-family-good = tt
+pub family_good : T (good at_family)
+family_good = tt
 
-pub mode-good : T (good atMode)
-mode-good = tt
+pub mode_good : T (good at_mode)
+mode_good = tt
 
-abbrev form-good : ℕ → Bool
-form-good i =
+abbrev form_good : ℕ → Bool
+form_good i =
     elim (good (form_of (row_at i).family).a) [
       | true ↦ elim (good (form_of (row_at i).family).b) [ true ↦ good (form_of (row_at i).family).c | false ↦ false ]
       | false ↦ false
     ]
 
-all-good : T (span 0 no_row form-good)
-all-good = tt
+all_good : T (span 0 no_row form_good)
+all_good = tt
 
 module _ (i : ℕ) (h : i < no_row) where
   good-from : T (elim (good (form_of (row_at i).family).a) [ true ↦ elim (good (form_of (row_at i).family).b) [ true ↦ good (form_of (row_at i).family).c | false ↦ false ] | false ↦ false ])
-  good-from = below form-good no_row i all-good h
+  good-from = below form_good no_row i all_good h
 
   pub good-a : T (good (form_of (row_at i).family).a)
   good-a = (both (good (form_of (row_at i).family).a) _ good-from).0
@@ -90,13 +90,13 @@ module _ (i : ℕ) (h : i < no_row) where
   pub good-c : T (good (form_of (row_at i).family).c)
   good-c = (both (good (form_of (row_at i).family).b) _ good-later).1
 
-pub same_text : (x y : List ℕ) → sameText x y ≡ true → x ≡ y
-same_text [] [] e = refl
-same_text [] (b ∷ y) e = absurd (never e)
-same_text (a ∷ x) [] e = absurd (never e)
-same_text (a ∷ x) (b ∷ y) e = by-test (eqb a b) refl e (same_text x y)
+pub same_text_lem : (x y : List ℕ) → same_text x y ≡ true → x ≡ y
+same_text_lem [] [] e = refl
+same_text_lem [] (b ∷ y) e = absurd (never e)
+same_text_lem (a ∷ x) [] e = absurd (never e)
+same_text_lem (a ∷ x) (b ∷ y) e = by-test (eqb a b) refl e (same_text_lem x y)
   where
-    by-test : (t : Bool) → eqb a b ≡ t → elim t [ true ↦ sameText x y | false ↦ false ] ≡ true → (sameText x y ≡ true → x ≡ y) → a ∷ x ≡ b ∷ y
+    by-test : (t : Bool) → eqb a b ≡ t → elim t [ true ↦ same_text x y | false ↦ false ] ≡ true → (same_text x y ≡ true → x ≡ y) → a ∷ x ≡ b ∷ y
     by-test true q e rest = let h = eqb-true a b q in let r = rest e in cc
     by-test false q e rest = absurd (never e)
 
@@ -108,66 +108,66 @@ pub record Chosen (test : Name → Bool) (v : ℕ) (t : List ℕ) : Type 0 where
   pub text : name.text ≡ t
 
 module _ (test : Name → Bool) where
-  pub by_value : (xs : List Name) (v : ℕ) → T (every test xs) → full (textIn xs v) ≡ true → Chosen test v (textIn xs v)
+  pub by_value : (xs : List Name) (v : ℕ) → T (every test xs) → full (text_in xs v) ≡ true → Chosen test v (text_in xs v)
   by_value [] v t f = absurd (never f)
   by_value (x ∷ xs) v t f =
       let b = both (test x) (every test xs) t in
       by-test (eqb x.value v) refl b.0 f (by_value xs v b.1)
     where
-      by-test : (q : Bool) → eqb x.value v ≡ q → T (test x) → full (elim q [ true ↦ x.text | false ↦ textIn xs v ]) ≡ true
-          → (full (textIn xs v) ≡ true → Chosen test v (textIn xs v)) → Chosen test v (elim q [ true ↦ x.text | false ↦ textIn xs v ])
+      by-test : (q : Bool) → eqb x.value v ≡ q → T (test x) → full (elim q [ true ↦ x.text | false ↦ text_in xs v ]) ≡ true
+          → (full (text_in xs v) ≡ true → Chosen test v (text_in xs v)) → Chosen test v (elim q [ true ↦ x.text | false ↦ text_in xs v ])
       by-test true q t f rest = record { name = x; tested = t; value = eqb-true x.value v q; text = refl }
       by-test false q t f rest = rest f
 
-  pub by-text : (xs : List Name) (t : List ℕ) (v : ℕ) → T (every test xs) → valueIn xs t ≡ some v → Chosen test v t
+  pub by-text : (xs : List Name) (t : List ℕ) (v : ℕ) → T (every test xs) → value_in xs t ≡ some v → Chosen test v t
   by-text [] t v h e = absurd (some-ne-none v (sym e))
   by-text (x ∷ xs) t v h e =
       let b = both (test x) (every test xs) h in
-      by-test (sameText x.text t) refl b.0 e (by-text xs t v b.1)
+      by-test (same_text x.text t) refl b.0 e (by-text xs t v b.1)
     where
-      by-test : (q : Bool) → sameText x.text t ≡ q → T (test x) → elim q [ true ↦ some x.value | false ↦ valueIn xs t ] ≡ some v
-          → (valueIn xs t ≡ some v → Chosen test v t) → Chosen test v t
-      by-test true q s e rest = record { name = x; tested = s; value = some-injective x.value v e; text = same_text x.text t q }
+      by-test : (q : Bool) → same_text x.text t ≡ q → T (test x) → elim q [ true ↦ some x.value | false ↦ value_in xs t ] ≡ some v
+          → (value_in xs t ≡ some v → Chosen test v t) → Chosen test v t
+      by-test true q s e rest = record { name = x; tested = s; value = some-injective x.value v e; text = same_text_lem x.text t q }
       by-test false q s e rest = rest e
 
-found-is : (o : Option ℕ) (v : ℕ) → T (found o v) → o ≡ some v
-found-is none v t = absurd t
-found-is (some k) v t = ap some (eqb→eq k v t)
+found_is : (o : Option ℕ) (v : ℕ) → T (found o v) → o ≡ some v
+found_is none v t = absurd t
+found_is (some k) v t = ap some (eqb→eq k v t)
 
 -- what is asked of a name, one by one
 module _ (xs : List Name) (x : Name) (t : T (sane xs x)) where
   sane-fits : T (fits x)
   sane-fits = (both (fits x) _ t).0
 
-  sane-rest : T (elim (ltb x.value mostValues) [ true ↦ distinct xs x | false ↦ false ])
+  sane-rest : T (elim (ltb x.value most_values) [ true ↦ distinct xs x | false ↦ false ])
   sane-rest = (both (fits x) _ t).1
 
-  sane-small : x.value < mostValues
-  sane-small = ltb→lt x.value mostValues (both (ltb x.value mostValues) (distinct xs x) sane-rest).0
+  sane-small : x.value < most_values
+  sane-small = ltb→lt x.value most_values (both (ltb x.value most_values) (distinct xs x) sane-rest).0
 
   sane-distinct : T (distinct xs x)
-  sane-distinct = (both (ltb x.value mostValues) (distinct xs x) sane-rest).1
+  sane-distinct = (both (ltb x.value most_values) (distinct xs x) sane-rest).1
 
   sane-sound : T (sound x.text)
   sane-sound = (both (sound x.text) _ sane-distinct).0
 
-  sane-pair : T (elim (sameText (textIn xs x.value) x.text) [ true ↦ found (valueIn xs x.text) x.value | false ↦ false ])
+  sane-pair : T (elim (same_text (text_in xs x.value) x.text) [ true ↦ found (value_in xs x.text) x.value | false ↦ false ])
   sane-pair = (both (sound x.text) _ sane-distinct).1
 
-  sane-text : textIn xs x.value ≡ x.text
-  sane-text = same_text _ _ (holds _ (both (sameText (textIn xs x.value) x.text) _ sane-pair).0)
+  sane-text : text_in xs x.value ≡ x.text
+  sane-text = same_text_lem _ _ (holds _ (both (same_text (text_in xs x.value) x.text) _ sane-pair).0)
 
-  sane-value : valueIn xs x.text ≡ some x.value
-  sane-value = found-is (valueIn xs x.text) x.value (both (sameText (textIn xs x.value) x.text) _ sane-pair).1
+  sane-value : value_in xs x.text ≡ some x.value
+  sane-value = found_is (value_in xs x.text) x.value (both (same_text (text_in xs x.value) x.text) _ sane-pair).1
 
-pub fits-proper : (x : Name) → T (fits x) → T (proper x.text)
-fits-proper x t = (both (proper x.text) _ t).0
+pub fits_proper : (x : Name) → T (fits x) → T (proper x.text)
+fits_proper x t = (both (proper x.text) _ t).0
 
-pub fits-short : (x : Name) → T (fits x) → length x.text ≤ 7
-fits-short x t = leb→le (length x.text) 7 (both (leb (length x.text) 7) _ (both (proper x.text) _ t).1).0
+pub fits_short : (x : Name) → T (fits x) → length x.text ≤ 7
+fits_short x t = leb→le (length x.text) 7 (both (leb (length x.text) 7) _ (both (proper x.text) _ t).1).0
 
-pub fits-small : (x : Name) → T (fits x) → key_of x.text < 0x100000000000000
-fits-small x t = ltb→lt (key_of x.text) 0x100000000000000 (both (leb (length x.text) 7) _ (both (proper x.text) _ t).1).1
+pub fits_small : (x : Name) → T (fits x) → key_of x.text < 0x100000000000000
+fits_small x t = ltb→lt (key_of x.text) 0x100000000000000 (both (leb (length x.text) 7) _ (both (proper x.text) _ t).1).1
 
 module _ (p : Place) (g : T (good p)) where
   names-sane : T (every (sane p.names) p.names)
@@ -187,15 +187,15 @@ module _ (p : Place) (g : T (good p)) where
           by-test false q r = absurd q
 
   -- a value that was found is written so
-  pub value-text : (t : List ℕ) (v : ℕ) → valueIn p.names t ≡ some v → (text_of p v ≡ t) × (v < mostValues)
+  pub value-text : (t : List ℕ) (v : ℕ) → value_in p.names t ≡ some v → (text_of p v ≡ t) × (v < most_values)
   value-text t v e =
       let c = by-text (sane p.names) p.names t v names-sane e in
       let n : Name = c.name in (
-        ap (textIn p.names) (sym c.value) ∙ sane-text p.names n c.tested ∙ c.text,
-        subst (λ (v : ℕ). v < mostValues) c.value (sane-small p.names n c.tested),
+        ap (text_in p.names) (sym c.value) ∙ sane-text p.names n c.tested ∙ c.text,
+        subst (λ (v : ℕ). v < most_values) c.value (sane-small p.names n c.tested),
       )
 
-  pub value-full : (t : List ℕ) (v : ℕ) → valueIn p.names t ≡ some v → full (text_of p v) ≡ true
+  pub value-full : (t : List ℕ) (v : ℕ) → value_in p.names t ≡ some v → full (text_of p v) ≡ true
   value-full t v e =
       let c = by-text (sane p.names) p.names t v names-sane e in
       ap full ((value-text t v e).0 ∙ sym c.text) ∙ sound-full c.name.text (sane-sound p.names c.name c.tested)
@@ -209,9 +209,9 @@ module _ (p : Place) (g : T (good p)) where
     chosen = by_value (sane p.names) p.names v names-sane f
 
     -- and a text of a value is found again
-    pub text-value : valueIn p.names (text_of p v) ≡ some v
+    pub text-value : value_in p.names (text_of p v) ≡ some v
     text-value =
-        ap (valueIn p.names) (sym chosen.text) ∙ sane-value p.names chosen.name chosen.tested ∙ ap some chosen.value
+        ap (value_in p.names) (sym chosen.text) ∙ sane-value p.names chosen.name chosen.tested ∙ ap some chosen.value
 
     pub text-sound : T (sound (text_of p v))
     text-sound = subst (λ (t : List ℕ). T (sound t)) chosen.text (sane-sound p.names chosen.name chosen.tested)
@@ -220,14 +220,14 @@ module _ (p : Place) (g : T (good p)) where
     chosen-fits = sane-fits p.names chosen.name chosen.tested
 
     pub text-length : length (text_of p v) ≤ 7
-    text-length = subst (λ (t : List ℕ). length t ≤ 7) chosen.text (fits-short chosen.name chosen-fits)
+    text-length = subst (λ (t : List ℕ). length t ≤ 7) chosen.text (fits_short chosen.name chosen-fits)
 
-    pub key-text : textOfKey (keyIn p.names v) ≡ text_of p v
+    pub key-text : text_of_key (key_in p.names v) ≡ text_of p v
     key-text =
-        text-of (key_of (text_of p v))
-        ∙ key_back keyBytes (text_of p v) (subst (λ (t : List ℕ). T (proper t)) chosen.text (fits-proper chosen.name chosen-fits)) (omega (arith, text-length))
+        text_of_lem (key_of (text_of p v))
+        ∙ key_back key_bytes (text_of p v) (subst (λ (t : List ℕ). T (proper t)) chosen.text (fits_proper chosen.name chosen-fits)) (omega (arith, text-length))
 
-  no_names : (xs : List Name) → empty xs ≡ true → (v : ℕ) → textIn xs v ≡ []
+  no_names : (xs : List Name) → empty xs ≡ true → (v : ℕ) → text_in xs v ≡ []
   no_names [] e v = refl
   no_names (x ∷ xs) e v = absurd (never e)
 
@@ -243,13 +243,13 @@ module _ (p : Place) (g : T (good p)) where
 
 -- a field is written where its set has more than one value, and its texts are those of the set's values
 abbrev writes : ℕ → Place → ℕ → Bool
-writes s p v = elim (same (not (eqb s (2 ^ onlyOf s))) (written p)) [
-  | true ↦ elim (written p) [ true ↦ same (full (text_of p v)) (has s v) | false ↦ same (has s v) (eqb v (onlyOf s)) ]
+writes s p v = elim (same (not (eqb s (2 ^ only_of s))) (written p)) [
+  | true ↦ elim (written p) [ true ↦ same (full (text_of p v)) (has s v) | false ↦ same (has s v) (eqb v (only_of s)) ]
   | false ↦ false
 ]
 
-abbrev family-writes : ℕ → ℕ → Bool
-family-writes i v =
+abbrev family_writes : ℕ → ℕ → Bool
+family_writes i v =
     elim (writes (row_at i).a (form_of (row_at i).family).a v) [
       | true ↦ elim (writes (row_at i).b (form_of (row_at i).family).b v) [
         | true ↦ writes (row_at i).c (form_of (row_at i).family).c v
@@ -258,19 +258,19 @@ family-writes i v =
       | false ↦ false
     ]
 
-all-write : T (span 0 no_row (λ i. span 0 mostValues (family-writes i)))
-all-write = tt
+all_write : T (span 0 no_row (λ i. span 0 most_values (family_writes i)))
+all_write = tt
 
 writes_at : (s : ℕ) (p : Place) (v : ℕ) → T (writes s p v) → Writes s p v
-writes_at s p v t = by-test (written p) refl (both (same (not (eqb s (2 ^ onlyOf s))) (written p)) _ t).1
+writes_at s p v t = by-test (written p) refl (both (same (not (eqb s (2 ^ only_of s))) (written p)) _ t).1
   where
-    by-test : (b : Bool) → written p ≡ b → T (elim b [ true ↦ same (full (text_of p v)) (has s v) | false ↦ same (has s v) (eqb v (onlyOf s)) ]) → Writes s p v
-    by-test true q t = shown q (same-eq (full (text_of p v)) (has s v) (holds _ t))
-    by-test false q t = left q (same-eq (has s v) (eqb v (onlyOf s)) (holds _ t))
+    by-test : (b : Bool) → written p ≡ b → T (elim b [ true ↦ same (full (text_of p v)) (has s v) | false ↦ same (has s v) (eqb v (only_of s)) ]) → Writes s p v
+    by-test true q t = shown q (same_eq (full (text_of p v)) (has s v) (holds _ t))
+    by-test false q t = left q (same_eq (has s v) (eqb v (only_of s)) (holds _ t))
 
-module _ (i : ℕ) (h : i < no_row) (v : ℕ) (l : v < mostValues) where
-  here : T (family-writes i v)
-  here = below (family-writes i) mostValues v (below (λ i. span 0 mostValues (family-writes i)) no_row i all-write h) l
+module _ (i : ℕ) (h : i < no_row) (v : ℕ) (l : v < most_values) where
+  here : T (family_writes i v)
+  here = below (family_writes i) most_values v (below (λ i. span 0 most_values (family_writes i)) no_row i all_write h) l
 
   pub writes-a : Writes (row_at i).a (form_of (row_at i).family).a v
   writes-a = writes_at _ _ v (both (writes (row_at i).a (form_of (row_at i).family).a v) _ here).0
@@ -288,23 +288,23 @@ module _ (i : ℕ) (h : i < no_row) (v : ℕ) (l : v < mostValues) where
 abbrev as_many : Place → ℕ → ℕ → Bool
 as_many p n v = same (full (text_of p v)) (ltb v n)
 
-all-families : T (span 0 mostValues (as_many atFamily no_row))
-all-families = tt
+all_families : T (span 0 most_values (as_many at_family no_row))
+all_families = tt
 
-all-modes : T (span 0 mostValues (as_many atMode 2))
-all-modes = tt
+all_modes : T (span 0 most_values (as_many at_mode 2))
+all_modes = tt
 
-many : (p : Place) (n : ℕ) → T (span 0 mostValues (as_many p n)) → (v : ℕ) → v < mostValues → full (text_of p v) ≡ ltb v n
-many p n t v h = same-eq (full (text_of p v)) (ltb v n) (holds _ (below (as_many p n) mostValues v t h))
+many : (p : Place) (n : ℕ) → T (span 0 most_values (as_many p n)) → (v : ℕ) → v < most_values → full (text_of p v) ≡ ltb v n
+many p n t v h = same_eq (full (text_of p v)) (ltb v n) (holds _ (below (as_many p n) most_values v t h))
 
-pub family-text : (i : ℕ) → i < no_row → full (text_of atFamily i) ≡ true
-family-text i h = many atFamily no_row all-families i (omega arith) ∙ lt-ltb i no_row h
+pub family_text : (i : ℕ) → i < no_row → full (text_of at_family i) ≡ true
+family_text i h = many at_family no_row all_families i (omega arith) ∙ lt-ltb i no_row h
 
-pub family-small : (i : ℕ) → i < mostValues → full (text_of atFamily i) ≡ true → i < no_row
-family-small i h e = ltb-true i no_row (sym (many atFamily no_row all-families i h) ∙ e)
+pub family_small : (i : ℕ) → i < most_values → full (text_of at_family i) ≡ true → i < no_row
+family_small i h e = ltb-true i no_row (sym (many at_family no_row all_families i h) ∙ e)
 
-pub mode-text : (m : ℕ) → m < 2 → full (text_of atMode m) ≡ true
-mode-text m h = many atMode 2 all-modes m (omega arith) ∙ lt-ltb m 2 h
+pub mode_text : (m : ℕ) → m < 2 → full (text_of at_mode m) ≡ true
+mode_text m h = many at_mode 2 all_modes m (omega arith) ∙ lt-ltb m 2 h
 
-pub mode_small : (m : ℕ) → m < mostValues → full (text_of atMode m) ≡ true → m < 2
-mode_small m h e = ltb-true m 2 (sym (many atMode 2 all-modes m h) ∙ e)
+pub mode_small : (m : ℕ) → m < most_values → full (text_of at_mode m) ≡ true → m < 2
+mode_small m h e = ltb-true m 2 (sym (many at_mode 2 all_modes m h) ∙ e)

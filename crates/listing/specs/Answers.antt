@@ -2,19 +2,19 @@
 use Rattle.std.specs.Prelude.{ℕ, List, ◌++◌, ltb, length, drop}
 use Rattle.std.proofs.Math.Option.{none, some}
 use Rattle.choice.specs.Pick.{pick}
-use Rattle.choice.specs.Tells.{Tells, accepted, refused, Placed, acceptedWhole, refusedAt}
+use Rattle.choice.specs.Tells.{Tells, accepted, refused, Placed, accepted_whole, refused_at}
 use Rattle.listing.specs.declared.Printed.{Printed}
 use Rattle.listing.specs.declared.Read.{Read}
 use Rattle.listing.specs.Lines.{line_of}
-use Rattle.listing.specs.Data.{dataLine}
+use Rattle.listing.specs.Data.{data_line}
 
-abbrev pub printedTells : Printed → Tells ℕ
-printedTells (Printed.Filled n) = accepted n
-printedTells (Printed.Refused k) = refused k
+abbrev pub printed_tells : Printed → Tells ℕ
+printed_tells (Printed.Filled n) = accepted n
+printed_tells (Printed.Refused k) = refused k
 
-abbrev pub readTells : Read → Placed ℕ
-readTells (Read.Word w) = acceptedWhole w
-readTells (Read.Refused k column) = refusedAt k column
+abbrev pub read_tells : Read → Placed ℕ
+read_tells (Read.Word w) = accepted_whole w
+read_tells (Read.Refused k column) = refused_at k column
 
 -- what a call tells, and the lent bytes after it
 pub record Outcome : Type 0 where
@@ -30,13 +30,13 @@ fill line before =
     pick (ltb (length before) (length line)) (outcome (refused 3) before)
     (outcome (accepted (length line)) (line ++ drop (length line) before))
 
-abbrev pub fillBy : Tells (List ℕ) → List ℕ → Outcome
-fillBy t before = elim t.value [ some line ↦ fill line before | none ↦ outcome (refused t.number) before ]
+abbrev pub fill_by : Tells (List ℕ) → List ℕ → Outcome
+fill_by t before = elim t.value [ some line ↦ fill line before | none ↦ outcome (refused t.number) before ]
 
 -- the line of a word; a refused word has its number, and the bytes are left alone
-unfoldable pub printInto : ℕ → List ℕ → Outcome
-printInto w before = fillBy (line_of w) before
+unfoldable pub print_into : ℕ → List ℕ → Outcome
+print_into w before = fill_by (line_of w) before
 
 -- the line of immediate data
-unfoldable pub dataInto : ℕ → List ℕ → Outcome
-dataInto d before = fill (dataLine d) before
+unfoldable pub data_into : ℕ → List ℕ → Outcome
+data_into d before = fill (data_line d) before

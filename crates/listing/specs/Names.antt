@@ -53,8 +53,8 @@ abbrev pub modes : List Name
 modes = 0 is "B" ∷ 1 is "W" ∷ []
 
 -- SOR and SONR, opcode (A)
-abbrev pub oneOperand : List Name
-oneOperand =
+abbrev pub one_operand : List Name
+one_operand =
     0b1100 is "MOVE"
     ∷ 0b1101 is "COMP"
     ∷ 0b1110 is "INC"
@@ -62,8 +62,8 @@ oneOperand =
     ∷ []
 
 -- SOR, source and destination (B)
-abbrev pub sourcesRam : List Name
-sourcesRam =
+abbrev pub sources_ram : List Name
+sources_ram =
     0b0000 is "SORA"
     ∷ 0b0010 is "SORY"
     ∷ 0b0011 is "SORS"
@@ -77,8 +77,8 @@ sourcesRam =
     ∷ []
 
 -- SONR, source (B)
-abbrev pub sourcesNoRam : List Name
-sourcesNoRam =
+abbrev pub sources_no_ram : List Name
+sources_no_ram =
     0b0100 is "SOA"
     ∷ 0b0110 is "SOD"
     ∷ 0b0111 is "SOI"
@@ -97,8 +97,8 @@ destinations =
     ∷ []
 
 -- SHFTNR, PRTNR and SVSTNR, destination (C)
-abbrev pub yOrAcc : List Name
-yOrAcc =
+abbrev pub y_or_acc : List Name
+y_or_acc =
     0b00000 is "NRY"
     ∷ 0b00001 is "NRA"
     ∷ []
@@ -118,16 +118,16 @@ pairs =
     ∷ []
 
 -- TOR2, sources and destination (A)
-abbrev pub pairsToRam : List Name
-pairsToRam =
+abbrev pub pairs_to_ram : List Name
+pairs_to_ram =
     0b0001 is "TODAR"
     ∷ 0b0010 is "TOAIR"
     ∷ 0b0101 is "TODIR"
     ∷ []
 
 -- TONR, sources (A)
-abbrev pub pairsNoRam : List Name
-pairsNoRam =
+abbrev pub pairs_no_ram : List Name
+pairs_no_ram =
     0b0001 is "TODA"
     ∷ 0b0010 is "TOAI"
     ∷ 0b0101 is "TODI"
@@ -151,15 +151,15 @@ operations =
     ∷ []
 
 -- SHFTR, source and destination (A)
-abbrev pub shiftedRam : List Name
-shiftedRam =
+abbrev pub shifted_ram : List Name
+shifted_ram =
     0b0110 is "SHRR"
     ∷ 0b0111 is "SHDR"
     ∷ []
 
 -- SHFTNR, source (A)
-abbrev pub shiftedNoRam : List Name
-shiftedNoRam =
+abbrev pub shifted_no_ram : List Name
+shifted_no_ram =
     0b0110 is "SHA"
     ∷ 0b0111 is "SHD"
     ∷ []
@@ -178,16 +178,16 @@ shifts =
     ∷ []
 
 -- BOR1, opcode (B)
-abbrev pub bitTests : List Name
-bitTests =
+abbrev pub bit_tests : List Name
+bit_tests =
     0b1101 is "SETNR"
     ∷ 0b1110 is "RSTNR"
     ∷ 0b1111 is "TSTNR"
     ∷ []
 
 -- BOR2, opcode (B)
-abbrev pub bitLoads : List Name
-bitLoads =
+abbrev pub bit_loads : List Name
+bit_loads =
     0b1100 is "LD2NR"
     ∷ 0b1101 is "LDC2NR"
     ∷ 0b1110 is "A2NR"
@@ -195,8 +195,8 @@ bitLoads =
     ∷ []
 
 -- BONR, opcode (C)
-abbrev pub bitActs : List Name
-bitActs =
+abbrev pub bit_acts : List Name
+bit_acts =
     0b00000 is "TSTNA"
     ∷ 0b00001 is "RSTNA"
     ∷ 0b00010 is "SETNA"
@@ -214,23 +214,23 @@ bitActs =
     ∷ []
 
 -- ROTR1, source and destination (B)
-abbrev pub turnsFromRam : List Name
-turnsFromRam =
+abbrev pub turns_from_ram : List Name
+turns_from_ram =
     0b1100 is "RTRA"
     ∷ 0b1110 is "RTRY"
     ∷ 0b1111 is "RTRR"
     ∷ []
 
 -- ROTR2, source and destination (B)
-abbrev pub turnsToRam : List Name
-turnsToRam =
+abbrev pub turns_to_ram : List Name
+turns_to_ram =
     0b0000 is "RTAR"
     ∷ 0b0001 is "RTDR"
     ∷ []
 
 -- ROTNR, source and destination (C)
-abbrev pub turnsNoRam : List Name
-turnsNoRam =
+abbrev pub turns_no_ram : List Name
+turns_no_ram =
     0b11000 is "RTDY"
     ∷ 0b11001 is "RTDA"
     ∷ 0b11100 is "RTAY"
@@ -258,16 +258,16 @@ compares =
     ∷ []
 
 -- PRT1, destination (A)
-abbrev pub firstTo : List Name
-firstTo =
+abbrev pub first_to : List Name
+first_to =
     0b1000 is "PRIA"
     ∷ 0b1010 is "PR1Y"
     ∷ 0b1011 is "PR1R"
     ∷ []
 
 -- PRT1, source (B)
-abbrev pub firstFrom : List Name
-firstFrom =
+abbrev pub first_from : List Name
+first_from =
     0b0111 is "RPT1A"
     ∷ 0b1001 is "PR1D"
     ∷ []
@@ -281,23 +281,23 @@ masks =
     ∷ []
 
 -- PRT2, destination (B)
-abbrev pub secondTo : List Name
-secondTo =
+abbrev pub second_to : List Name
+second_to =
     0b0000 is "PR2A"
     ∷ 0b0010 is "PR2Y"
     ∷ []
 
 -- PRT3, source (B)
-abbrev pub thirdFrom : List Name
-thirdFrom =
+abbrev pub third_from : List Name
+third_from =
     0b0011 is "PR3R"
     ∷ 0b0100 is "PR3A"
     ∷ 0b0110 is "PR3D"
     ∷ []
 
 -- PRTNR, source (B)
-abbrev pub fourthFrom : List Name
-fourthFrom =
+abbrev pub fourth_from : List Name
+fourth_from =
     0b0100 is "PRTA"
     ∷ 0b0110 is "PRTD"
     ∷ []

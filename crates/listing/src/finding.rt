@@ -1,6 +1,6 @@
 // A name by its value, and a value by its name, among the entries of a place.
 ghost use Rattle.std.specs.Prelude.{◌≡◌};
-ghost use Rattle.listing.specs.Keys.{keyIn, valueBy, foundTells};
+ghost use Rattle.listing.specs.Keys.{key_in, value_by, found_tells};
 ghost use Rattle.listing.specs.Entries.{spanned};
 
 use crate::{Found, names};
@@ -10,7 +10,7 @@ const KEYS: u64 = 0x100000000000000;
 
 // The key of a value's name; 0 where it has none.
 pub(crate) fn key_of(place: u16, value: u8) -> u64
-    ensures { result ≡ keyIn (spanned place) value }
+    ensures { result ≡ key_in (spanned place) value }
 {
     let first = place / 64;
     let count = place % 64;
@@ -27,7 +27,7 @@ pub(crate) fn key_of(place: u16, value: u8) -> u64
 
 // The value of the name that has the key.
 pub(crate) fn find(place: u16, key: u64) -> Found
-    ensures { foundTells result ≡ valueBy (spanned place) key }
+    ensures { found_tells result ≡ value_by (spanned place) key }
 {
     let first = place / 64;
     let count = place % 64;

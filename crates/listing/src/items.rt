@@ -1,6 +1,6 @@
 // The items of a line: what stands between blanks.
 ghost use Rattle.std.specs.Prelude.{◌≡◌, ◌-◌, ◌≤◌, length, drop, take};
-ghost use Rattle.listing.specs.Keys.{oneMore, keyFrom};
+ghost use Rattle.listing.specs.Keys.{one_more, key_from};
 ghost use Rattle.listing.specs.Reading.{Starts, Ends, Nexts};
 
 use crate::Next;
@@ -42,7 +42,7 @@ fn item_end(line: &[u8], at: usize) -> usize
 
 // A byte before those of a key.
 fn one_more(byte: u8, key: u64) -> u64
-    ensures { result ≡ oneMore byte key }
+    ensures { result ≡ one_more byte key }
 {
     if byte == 0 {
         return NO_KEY;
@@ -57,7 +57,7 @@ fn one_more(byte: u8, key: u64) -> u64
 // The key of the bytes from an index up to another.
 fn key_of_bytes(line: &[u8], start: usize, end: usize) -> u64
     requires { (start ≤ end) × (end ≤ length line.now) }
-    ensures { result ≡ keyFrom (take (end - start) (drop start line.now)) }
+    ensures { result ≡ key_from (take (end - start) (drop start line.now)) }
 {
     let mut key: u64 = 0;
     let mut i: usize = end;

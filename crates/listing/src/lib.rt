@@ -1,4 +1,6 @@
 // Instruction words as lines of names and numbers, and immediate data as lines of hex digits; and back (document 02, request 1).
+#![tactic(auto)]
+
 use alu::Mode;
 use isa::{Decoded, Encoded, Named};
 
@@ -11,13 +13,13 @@ mod writing; // writing.rt: names put as text
 mod digits; // digits.rt: four hex digits
 
 ghost use Rattle.std.specs.Prelude.{◌≡◌, ◌≤◌, ◌<◌, length};
-ghost use Rattle.isa.specs.Fields.{markFor, mode_of};
+ghost use Rattle.isa.specs.Fields.{mark_for, mode_of};
 ghost use Rattle.isa.specs.Table.{row_at, no_row};
 ghost use Rattle.listing.specs.Lines.{ended, encoded, fields_of, word_of, past_of};
 ghost use Rattle.listing.specs.Data.{data_of};
-ghost use Rattle.listing.specs.Answers.{printedTells, readTells, outcome, printInto, dataInto};
+ghost use Rattle.listing.specs.Answers.{printed_tells, read_tells, outcome, print_into, data_into};
 ghost use Rattle.listing.specs.Keys.{keys_of};
-ghost use Rattle.listing.specs.Reading.{itemsAt};
+ghost use Rattle.listing.specs.Reading.{items_at};
 
 // No line of a word has more bytes, and no line of data.
 pub const LINE_BYTES: usize = 23;
@@ -25,21 +27,21 @@ pub const LINE_BYTES: usize = 23;
 pub const DATA_BYTES: usize = 4;
 
 // How many bytes were filled, or the number of the refusal.
-#[derive(Drop)]
+#[derive(Clone, Copy)]
 pub enum Printed {
     Filled(usize),
     Refused(u8),
 }
 
 // The word or the data of a line, or the number of the refusal and its column.
-#[derive(Drop)]
+#[derive(Clone, Copy)]
 pub enum Read {
     Word(u16),
     Refused(u8, usize),
 }
 
 // The keys of an instruction's texts, 0 for a field that is not written.
-#[derive(Drop)]
+#[derive(Clone, Copy)]
 pub(crate) struct Keys {
     pub(crate) family: u64,
     pub(crate) mode: u64,
@@ -49,7 +51,7 @@ pub(crate) struct Keys {
 }
 
 // The next item of a line: whether there is one, its index (the line's length if not), its column, its key, and the index after it.
-#[derive(Drop)]
+#[derive(Clone, Copy)]
 pub(crate) struct Next {
     pub(crate) found: bool,
     pub(crate) start: usize,
@@ -59,21 +61,21 @@ pub(crate) struct Next {
 }
 
 // A value of a place.
-#[derive(Drop)]
+#[derive(Clone, Copy)]
 pub(crate) enum Found {
     Value(u8),
     Nothing,
 }
 
 // A place that was read: its value and the index after it, or a refusal and its column.
-#[derive(Drop)]
+#[derive(Clone, Copy)]
 pub(crate) enum Step {
     Value(u8, usize),
     Refused(u8, usize),
 }
 
 fn mark_for(mode: Mode) -> u8
-    ensures { result ≡ markFor mode }
+    ensures { result ≡ mark_for mode }
 {
     match mode {
         Mode::Byte => 0,
@@ -98,7 +100,7 @@ fn keys_of(named: Named) -> Keys
 
 // The line of a word, into lent bytes: 3 where they are too few.
 pub fn line_of(word: u16, out: &mut [u8]) -> Printed
-    ensures { outcome (printedTells result) out.new ≡ printInto word out.old }
+    ensures { outcome (printed_tells result) out.new ≡ print_into word out.old }
 {
     match isa::decode(word) {
         Decoded::Refused(number) => Printed::Refused(number),
@@ -123,7 +125,7 @@ fn mode_of(mark: u8) -> Mode
 // The word of an instruction, once the line has no more items.
 fn finish(line: &[u8], at: usize, named: Named) -> Read
     requires { at ≤ length line.now }
-    ensures { readTells result ≡ ended (itemsAt line.now at) (encoded named) }
+    ensures { read_tells result ≡ ended (items_at line.now at) (encoded named) }
 {
     let item = items::next(line, at);
     if item.found {
@@ -138,7 +140,7 @@ fn finish(line: &[u8], at: usize, named: Named) -> Read
 // Fields A, B and C of a family, by the number of its row, and the word.
 fn fields(line: &[u8], at: usize, number: u8, mark: u8) -> Read
     requires { (at ≤ length line.now) × (number < no_row) }
-    ensures { readTells result ≡ fields_of (past_of line.now) (row_at number) mark (itemsAt line.now at) }
+    ensures { read_tells result ≡ fields_of (past_of line.now) (row_at number) mark (items_at line.now at) }
 {
     let row = isa::numbered_row(number);
     let family = row.family;
@@ -171,7 +173,7 @@ fn fields(line: &[u8], at: usize, number: u8, mark: u8) -> Read
 
 // The word of a line.
 pub fn word_of(line: &[u8]) -> Read
-    ensures { readTells result ≡ word_of line.now }
+    ensures { read_tells result ≡ word_of line.now }
 {
     match reading::expect(line, 0, places::FAMILIES) {
         Step::Refused(refusal, column) => Read::Refused(refusal, column),
@@ -184,7 +186,7 @@ pub fn word_of(line: &[u8]) -> Read
 
 // The line of immediate data, into lent bytes: 3 where they are too few.
 pub fn data_line(operand: u16, out: &mut [u8]) -> Printed
-    ensures { outcome (printedTells result) out.new ≡ dataInto operand out.old }
+    ensures { outcome (printed_tells result) out.new ≡ data_into operand out.old }
 {
     if out.len() < DATA_BYTES {
         return Printed::Refused(3);
@@ -195,7 +197,7 @@ pub fn data_line(operand: u16, out: &mut [u8]) -> Printed
 
 // The immediate data of a line.
 pub fn data_of(line: &[u8]) -> Read
-    ensures { readTells result ≡ data_of line.now }
+    ensures { read_tells result ≡ data_of line.now }
 {
     let item = items::next(line, 0);
     if item.at - item.start != DATA_BYTES {

@@ -3,7 +3,7 @@ ghost use Rattle.std.specs.Prelude.{◌≡◌};
 ghost use Rattle.choice.specs.Along.{Along};
 ghost use Rattle.isa.specs.Table.{row_at, no_row};
 ghost use Rattle.listing.specs.Places.{form_of};
-ghost use Rattle.listing.specs.Entries.{placed, samePlace};
+ghost use Rattle.listing.specs.Entries.{placed, same_place};
 
 use crate::names;
 
@@ -78,7 +78,7 @@ const REGISTER: u16 = 64 * 169 + 32;
 
 // Field A of a family, by the number of its row.
 pub(crate) fn place_a(number: u8) -> u16
-    ensures { Along samePlace no_row (λ i. (form_of (row_at i).family).a) number (placed result) }
+    ensures { Along same_place no_row (λ i. (form_of (row_at i).family).a) number (placed result) }
 {
     match number {
         0 => PAIRS, // TOR1
@@ -114,7 +114,7 @@ pub(crate) fn place_a(number: u8) -> u16
 
 // Field B of a family, by the number of its row.
 pub(crate) fn place_b(number: u8) -> u16
-    ensures { Along samePlace no_row (λ i. (form_of (row_at i).family).b) number (placed result) }
+    ensures { Along same_place no_row (λ i. (form_of (row_at i).family).b) number (placed result) }
 {
     match number {
         0 => OPERATIONS, // TOR1
@@ -150,7 +150,7 @@ pub(crate) fn place_b(number: u8) -> u16
 
 // Field C of a family, by the number of its row.
 pub(crate) fn place_c(number: u8) -> u16
-    ensures { Along samePlace no_row (λ i. (form_of (row_at i).family).c) number (placed result) }
+    ensures { Along same_place no_row (λ i. (form_of (row_at i).family).c) number (placed result) }
 {
     match number {
         0 => REGISTER, // TOR1

@@ -1,7 +1,7 @@
 // Names put as text, by their keys.
 ghost use Rattle.std.specs.Prelude.{◌≡◌, ◌+◌, ◌≤◌, length};
 ghost use Rattle.std.proofs.lemmas.List.Edits.{sets};
-ghost use Rattle.listing.specs.Keys.{textOfKey, afterBlank, keysLine, PutAt};
+ghost use Rattle.listing.specs.Keys.{text_of_key, after_blank, keys_line, PutAt};
 
 use crate::Keys;
 
@@ -10,7 +10,7 @@ const KEY_BYTES: usize = 8;
 
 // How many bytes a key's text has.
 fn size(key: u64) -> usize
-    ensures { result ≡ length (textOfKey key) }
+    ensures { result ≡ length (text_of_key key) }
 {
     let mut rest = key;
     let mut left: usize = KEY_BYTES;
@@ -26,15 +26,15 @@ fn size(key: u64) -> usize
 
 // The same after a blank; nothing for no key.
 fn size_after(key: u64) -> usize
-    ensures { result ≡ length (afterBlank key) }
+    ensures { result ≡ length (after_blank key) }
 {
     if key == 0 { 0 } else { 1 + size(key) }
 }
 
 // A key's text at a place of the bytes; the place after it.
 pub(crate) fn put(key: u64, at: usize, out: &mut [u8]) -> usize
-    requires { at + length (textOfKey key) ≤ length out.old }
-    ensures { PutAt (textOfKey key) at result out.old out.new }
+    requires { at + length (text_of_key key) ≤ length out.old }
+    ensures { PutAt (text_of_key key) at result out.old out.new }
 {
     let mut rest = key;
     let mut left: usize = KEY_BYTES;
@@ -53,8 +53,8 @@ pub(crate) fn put(key: u64, at: usize, out: &mut [u8]) -> usize
 
 // The same after a blank; nothing for no key.
 fn put_after(key: u64, at: usize, out: &mut [u8]) -> usize
-    requires { at + length (afterBlank key) ≤ length out.old }
-    ensures { PutAt (afterBlank key) at result out.old out.new }
+    requires { at + length (after_blank key) ≤ length out.old }
+    ensures { PutAt (after_blank key) at result out.old out.new }
 {
     if key == 0 {
         return at;
@@ -64,7 +64,7 @@ fn put_after(key: u64, at: usize, out: &mut [u8]) -> usize
 }
 
 pub(crate) fn line_size(keys: Keys) -> usize
-    ensures { result ≡ length (keysLine keys) }
+    ensures { result ≡ length (keys_line keys) }
 {
     size(keys.family)
         + size_after(keys.mode)
@@ -74,8 +74,8 @@ pub(crate) fn line_size(keys: Keys) -> usize
 }
 
 pub(crate) fn put_line(keys: Keys, out: &mut [u8])
-    requires { length (keysLine keys) ≤ length out.old }
-    ensures { out.new ≡ sets out.old 0 (keysLine keys) }
+    requires { length (keys_line keys) ≤ length out.old }
+    ensures { out.new ≡ sets out.old 0 (keys_line keys) }
 {
     let at = put(keys.family, 0, out);
     let at = put_after(keys.mode, at, out);

@@ -15,20 +15,20 @@ use Rattle.choice.specs.Tells.{Tells, accepted, refused}
 use Rattle.choice.specs.Text.{newline, hex}
 use Rattle.choice.proofs.Tells.{accepted-one, refused-one, accepted-refused}
 use Rattle.isa.specs.declared.Named.{Named}
-use Rattle.isa.specs.Words.{decodeOf, takesImmediate}
-use Rattle.lines.specs.Lines.{wordRefusedLine}
-use Rattle.listing.specs.Lines.{lineBy, line_of, textsOf, word_of}
+use Rattle.isa.specs.Words.{decode_of, takes_immediate}
+use Rattle.lines.specs.Lines.{word_refused_line}
+use Rattle.listing.specs.Lines.{line_by, line_of, texts_of, word_of}
 use Rattle.listing.specs.Items.{joined}
-use Rattle.listing.specs.Data.{dataLine, data_of}
-use Rattle.listing.specs.Answers.{Outcome, outcome, fill, printInto, dataInto}
+use Rattle.listing.specs.Data.{data_line, data_of}
+use Rattle.listing.specs.Answers.{Outcome, outcome, fill, print_into, data_into}
 use Rattle.listing.proofs.Hex.{data-long}
-use Rattle.listing.proofs.Single.{line-short}
-use Rattle.listpages.specs.Entries.{instructionLine, entryLine, waitsAfter, refusalAt, lineTells}
+use Rattle.listing.proofs.Single.{line_short}
+use Rattle.listpages.specs.Entries.{instruction_line, entry_line, waits_after, refusal_at, line_tells}
 
 -- a line that filled bytes with room for its end: with the end put after it
-pub line-end : (t before after : List ℕ) (n : ℕ) → n ≡ length t → after ≡ t ++ drop (length t) before → n < length before
+pub line_end : (t before after : List ℕ) (n : ℕ) → n ≡ length t → after ≡ t ++ drop (length t) before → n < length before
     → take (n + 1) (set after n newline) ≡ t ++ newline ∷ []
-line-end t before after n en ea h =
+line_end t before after n en ea h =
     let l : length after ≡ length before = ap length ea ∙ length-append t (drop (length t) before) ∙ long in
     ap (λ (k : ℕ). take k (set after n newline)) (add-one n)
     ∙ take-suc-set after n newline (omega (arith, l))
@@ -55,26 +55,26 @@ module _ (t before after : List ℕ) where
       by-test false q e = accepted-refused (length t) k (sym (ap (λ (o : Outcome). o.told) e))
 
 -- the data of a word
-pub hex-filled : (w : ℕ) (before after : List ℕ) (t : Tells ℕ) → length before ≡ 5 → outcome t after ≡ dataInto w before → set after 4 newline ≡ hex 4 w ++ newline ∷ []
-unfolding dataInto
-hex-filled w before after t l e =
-    let f : fill (dataLine w) before ≡ outcome (accepted (length (dataLine w))) (dataLine w ++ drop (length (dataLine w)) before) = rw (le-ltb (length before) (length (dataLine w)) (omega (arith, data-long w))) in
-    let a : after ≡ dataLine w ++ drop (length (dataLine w)) before = ap (λ (o : Outcome). o.bytes) (e ∙ f) in
-    let n : length after ≡ 5 = ap length a ∙ length-append (dataLine w) (drop (length (dataLine w)) before) ∙ simp length-drop (omega (arith, data-long w)) in
+pub hex_filled : (w : ℕ) (before after : List ℕ) (t : Tells ℕ) → length before ≡ 5 → outcome t after ≡ data_into w before → set after 4 newline ≡ hex 4 w ++ newline ∷ []
+unfolding data_into
+hex_filled w before after t l e =
+    let f : fill (data_line w) before ≡ outcome (accepted (length (data_line w))) (data_line w ++ drop (length (data_line w)) before) = rw (le-ltb (length before) (length (data_line w)) (omega (arith, data-long w))) in
+    let a : after ≡ data_line w ++ drop (length (data_line w)) before = ap (λ (o : Outcome). o.bytes) (e ∙ f) in
+    let n : length after ≡ 5 = ap length a ∙ length-append (data_line w) (drop (length (data_line w)) before) ∙ simp length-drop (omega (arith, data-long w)) in
     sym (take_all 5 (set after 4 newline) (simp length-set (omega arith)))
-    ∙ line-end (dataLine w) before after 4 (sym (data-long w)) a (omega arith)
+    ∙ line_end (data_line w) before after 4 (sym (data-long w)) a (omega arith)
 
 -- the line of a word tells what the word does
-pub line-told : (w : ℕ) (t : List ℕ) → (line_of w).value ≡ some t → line_of w ≡ accepted t
+pub line_told : (w : ℕ) (t : List ℕ) → (line_of w).value ≡ some t → line_of w ≡ accepted t
 unfolding line_of
-line-told w t e = by_answer (decodeOf w) e
+line_told w t e = by_answer (decode_of w) e
   where
-    by_value : (o : Option Named) (k : ℕ) → (elim o as (λ (z : Option Named). Tells (List ℕ)) [ some n ↦ accepted (joined (textsOf n)) | none ↦ refused k ]).value ≡ some t
-        → elim o as (λ (z : Option Named). Tells (List ℕ)) [ some n ↦ accepted (joined (textsOf n)) | none ↦ refused k ] ≡ accepted t
+    by_value : (o : Option Named) (k : ℕ) → (elim o as (λ (z : Option Named). Tells (List ℕ)) [ some n ↦ accepted (joined (texts_of n)) | none ↦ refused k ]).value ≡ some t
+        → elim o as (λ (z : Option Named). Tells (List ℕ)) [ some n ↦ accepted (joined (texts_of n)) | none ↦ refused k ] ≡ accepted t
     by_value none k e = absurd (some-ne-none t (sym e))
-    by_value (some n) k e = ap accepted (some-injective (joined (textsOf n)) t e)
+    by_value (some n) k e = ap accepted (some-injective (joined (texts_of n)) t e)
 
-    by_answer : (d : Tells Named) → (lineBy d).value ≡ some t → lineBy d ≡ accepted t
+    by_answer : (d : Tells Named) → (line_by d).value ≡ some t → line_by d ≡ accepted t
     by_answer d e = by_value d.value d.number e
 
 -- an instruction, by what `line_of` leaves
@@ -85,8 +85,8 @@ module _ (w : ℕ) (before after : List ℕ) (size : length before ≡ 24) where
     pub count : n ≡ length line
     pub bytes : after ≡ line ++ drop (length line) before
 
-  filled : (n : ℕ) → outcome (accepted n) after ≡ printInto w before → Filled n
-  unfolding printInto
+  filled : (n : ℕ) → outcome (accepted n) after ≡ print_into w before → Filled n
+  unfolding print_into
   filled n e = by_value (line_of w).value refl e
     where
       by_value : (o : Option (List ℕ)) → (line_of w).value ≡ o
@@ -94,54 +94,54 @@ module _ (w : ℕ) (before after : List ℕ) (size : length before ≡ 24) where
       by_value none q e = absurd (accepted-refused n (line_of w).number (ap (λ (o : Outcome). o.told) e))
       by_value (some t) q e =
           let f = fill-accepted t before after n e in
-          record { line = t; told = line-told w t q; count = f.0; bytes = f.1 }
+          record { line = t; told = line_told w t q; count = f.0; bytes = f.1 }
 
-  pub filled-short : (n : ℕ) → outcome (accepted n) after ≡ printInto w before → n ≤ 23
+  pub filled-short : (n : ℕ) → outcome (accepted n) after ≡ print_into w before → n ≤ 23
   filled-short n e =
       let f = filled n e in
-      omega (arith, f.count, line-short w f.line f.told)
+      omega (arith, f.count, line_short w f.line f.told)
 
-  pub filled-long : (n : ℕ) → outcome (accepted n) after ≡ printInto w before → length after ≡ 24
+  pub filled-long : (n : ℕ) → outcome (accepted n) after ≡ print_into w before → length after ≡ 24
   filled-long n e =
       let f = filled n e in
       ap length f.bytes ∙ length-append f.line (drop (length f.line) before) ∙ simp length-drop (omega (arith, size, f.count, filled-short n e))
 
-  pub filled-line : (n : ℕ) → outcome (accepted n) after ≡ printInto w before → take (n + 1) (set after n newline) ≡ instructionLine (line_of w)
+  pub filled-line : (n : ℕ) → outcome (accepted n) after ≡ print_into w before → take (n + 1) (set after n newline) ≡ instruction_line (line_of w)
   filled-line n e =
       let f = filled n e in
-      line-end f.line before after n f.count f.bytes (omega (arith, size, filled-short n e))
-      ∙ sym (ap instructionLine f.told)
+      line_end f.line before after n f.count f.bytes (omega (arith, size, filled-short n e))
+      ∙ sym (ap instruction_line f.told)
 
-  pub refused-line : (k : ℕ) → outcome (refused k) after ≡ printInto w before → wordRefusedLine k ≡ instructionLine (line_of w)
-  unfolding printInto
+  pub refused-line : (k : ℕ) → outcome (refused k) after ≡ print_into w before → word_refused_line k ≡ instruction_line (line_of w)
+  unfolding print_into
   refused-line k e = by_value (line_of w).value refl e
     where
       by_value : (o : Option (List ℕ)) → (line_of w).value ≡ o
           → outcome (refused k) after ≡ elim o as (λ (z : Option (List ℕ)). Outcome) [ some line ↦ fill line before | none ↦ outcome (refused (line_of w).number) before ]
-          → wordRefusedLine k ≡ elim o as (λ (z : Option (List ℕ)). List ℕ) [ some line ↦ line ++ newline ∷ [] | none ↦ wordRefusedLine (line_of w).number ]
-      by_value none q e = ap wordRefusedLine (refused-one {A = ℕ} k (line_of w).number (ap (λ (o : Outcome). o.told) e))
-      by_value (some t) q e = absurd (fill-refused t before after k (omega (arith, size, line-short w t (line-told w t q))) e)
+          → word_refused_line k ≡ elim o as (λ (z : Option (List ℕ)). List ℕ) [ some line ↦ line ++ newline ∷ [] | none ↦ word_refused_line (line_of w).number ]
+      by_value none q e = ap word_refused_line (refused-one {A = ℕ} k (line_of w).number (ap (λ (o : Outcome). o.told) e))
+      by_value (some t) q e = absurd (fill-refused t before after k (omega (arith, size, line_short w t (line_told w t q))) e)
 
 -- by whether an instruction waits
 module _ (waits : Bool) where
-  pub entry-data : (w : ℕ) → waits ≡ true → hex 4 w ++ newline ∷ [] ≡ entryLine waits w
-  unfolding entryLine
+  pub entry-data : (w : ℕ) → waits ≡ true → hex 4 w ++ newline ∷ [] ≡ entry_line waits w
+  unfolding entry_line
   entry-data w e = rw e
 
-  pub entry-word : (w : ℕ) → waits ≡ false → instructionLine (line_of w) ≡ entryLine waits w
-  unfolding entryLine
+  pub entry-word : (w : ℕ) → waits ≡ false → instruction_line (line_of w) ≡ entry_line waits w
+  unfolding entry_line
   entry-word w e = rw e
 
-  pub tells-data : (line : List ℕ) → waits ≡ true → data_of line ≡ lineTells waits line
-  unfolding lineTells
+  pub tells-data : (line : List ℕ) → waits ≡ true → data_of line ≡ line_tells waits line
+  unfolding line_tells
   tells-data line e = rw e
 
-  pub tells-word : (line : List ℕ) → waits ≡ false → word_of line ≡ lineTells waits line
-  unfolding lineTells
+  pub tells-word : (line : List ℕ) → waits ≡ false → word_of line ≡ line_tells waits line
+  unfolding line_tells
   tells-word line e = rw e
 
-  pub after-word : (w : ℕ) → waits ≡ false → takesImmediate w ≡ waitsAfter waits w
+  pub after-word : (w : ℕ) → waits ≡ false → takes_immediate w ≡ waits_after waits w
   after-word w e = rw e
 
-  pub refusal-word : (w k : ℕ) → waits ≡ false → k ≡ (decodeOf w).number → k ≡ refusalAt waits w
+  pub refusal-word : (w k : ℕ) → waits ≡ false → k ≡ (decode_of w).number → k ≡ refusal_at waits w
   refusal-word w k e q = q ∙ rw e

@@ -2,53 +2,53 @@
 use Rattle.std.specs.Prelude.{◌≡◌, ℕ, suc, ◌-◌, ◌≤◌, Bool, List, [], ◌∷◌, eqb, length, take, drop}
 use Rattle.choice.specs.Pick.{pick}
 use Rattle.choice.specs.Text.{newline}
-use Rattle.text.specs.Taking.{oneMore}
+use Rattle.text.specs.Taking.{one_more}
 use Rattle.lines.specs.Answers.{Makes}
 use Rattle.lines.specs.Putting.{Puts}
 use Rattle.listpages.specs.declared.Reading.{Reading}
 use Rattle.listpages.specs.declared.LinesRead.{LinesRead}
 use Rattle.listpages.specs.declared.Joined.{Joined}
-use Rattle.listpages.specs.Walking.{textFrom, stateAfter}
-use Rattle.listpages.specs.Entries.{answerLine, waitsNext, is_refused}
+use Rattle.listpages.specs.Walking.{text_from, stateAfter}
+use Rattle.listpages.specs.Entries.{answer_line, waits_next, is_refused}
 
 -- a byte in front of the first of some lines
-abbrev pub inFront : ℕ → List (List ℕ) → List (List ℕ)
-inFront b [] = (b ∷ []) ∷ []
-inFront b (line ∷ lines) = (b ∷ line) ∷ lines
+abbrev pub in_front : ℕ → List (List ℕ) → List (List ℕ)
+in_front b [] = (b ∷ []) ∷ []
+in_front b (line ∷ lines) = (b ∷ line) ∷ lines
 
 -- the lines of a text: each ends in a line feed, but the last one may lack it
 abbrev pub lines_of : List ℕ → List (List ℕ)
 lines_of [] = []
-lines_of (b ∷ bytes) = pick (eqb b newline) ([] ∷ lines_of bytes) (inFront b (lines_of bytes))
+lines_of (b ∷ bytes) = pick (eqb b newline) ([] ∷ lines_of bytes) (in_front b (lines_of bytes))
 
 -- a reader after a line: whether data is next, and how many lines were refused
 abbrev pub counted : Bool → ℕ → ℕ
-counted refused k = pick refused (oneMore k) k
+counted refused k = pick refused (one_more k) k
 
-abbrev pub afterLine : Reading → List ℕ → Reading
-afterLine s line = record { waits = waitsNext s.waits line; refused = counted (is_refused s.waits line) s.refused }
+abbrev pub after_line : Reading → List ℕ → Reading
+after_line s line = record { waits = waits_next s.waits line; refused = counted (is_refused s.waits line) s.refused }
 
-abbrev pub answerTo : Reading → List ℕ → List ℕ
-answerTo s line = answerLine s.waits line
+abbrev pub answer_to : Reading → List ℕ → List ℕ
+answer_to s line = answer_line s.waits line
 
 -- the answers to some lines, and the reader after them
-unfoldable pub answersOf : Reading → List (List ℕ) → List ℕ
-answersOf s lines = textFrom answerTo afterLine s lines
+unfoldable pub answers_of : Reading → List (List ℕ) → List ℕ
+answers_of s lines = text_from answer_to after_line s lines
 
-unfoldable pub readingAfter : Reading → List (List ℕ) → Reading
-readingAfter s lines = stateAfter afterLine s lines
+unfoldable pub reading_after : Reading → List (List ℕ) → Reading
+reading_after s lines = stateAfter after_line s lines
 
 -- so many bytes are taken at once
-abbrev pub pieceBytes : ℕ
-pieceBytes = 4096
+abbrev pub piece_bytes : ℕ
+piece_bytes = 4096
 
-abbrev pub pieceLines : List ℕ → List (List ℕ)
-pieceLines bytes = lines_of (take pieceBytes bytes)
+abbrev pub piece_lines : List ℕ → List (List ℕ)
+piece_lines bytes = lines_of (take piece_bytes bytes)
 
 -- what `read_lines` promises: the reader after the lines of what is taken, and the answers in the lent slice
 pub record ReadsLines (s : Reading) (bytes : List ℕ) (r : LinesRead) (out out' : List ℕ) : Type 0 where
-  pub reading : r.reading ≡ readingAfter s (pieceLines bytes)
-  pub written : Makes (answersOf s (pieceLines bytes)) r.output out out'
+  pub reading : r.reading ≡ reading_after s (piece_lines bytes)
+  pub written : Makes (answers_of s (piece_lines bytes)) r.output out out'
 
 -- for the contracts of the parts: the end of the line that begins at an index, and all answers put into a text
 pub record LineEnds (bytes : List ℕ) (from r : ℕ) : Type 0 where
@@ -57,5 +57,5 @@ pub record LineEnds (bytes : List ℕ) (from r : ℕ) : Type 0 where
   pub lines : lines_of (drop from bytes) ≡ take (r - from) (drop from bytes) ∷ lines_of (drop (suc r) bytes)
 
 pub record JoinsAnswers (s : Reading) (bytes : List ℕ) (r : Joined) (text text' : List ℕ) : Type 0 where
-  pub reading : r.reading ≡ readingAfter s (lines_of bytes)
-  pub put : Puts (answersOf s (lines_of bytes)) 0 r.at text text'
+  pub reading : r.reading ≡ reading_after s (lines_of bytes)
+  pub put : Puts (answers_of s (lines_of bytes)) 0 r.at text text'

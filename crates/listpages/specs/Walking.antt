@@ -2,9 +2,9 @@
 use Rattle.std.specs.Prelude.{ℕ, List, [], ◌∷◌, ◌++◌}
 
 module _ {S A : Type 0} (line : S → A → List ℕ) (next : S → A → S) where
-  abbrev pub textFrom : S → List A → List ℕ
-  textFrom s [] = []
-  textFrom s (x ∷ xs) = line s x ++ textFrom (next s x) xs
+  abbrev pub text_from : S → List A → List ℕ
+  text_from s [] = []
+  text_from s (x ∷ xs) = line s x ++ text_from (next s x) xs
 
 module _ {S A : Type 0} (next : S → A → S) where
   -- the state after them

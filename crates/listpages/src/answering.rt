@@ -1,6 +1,6 @@
 // The lines of a listing, and their words.
 ghost use Rattle.std.specs.Prelude.{◌≡◌, ◌≤◌, ◌<◌, length, take};
-ghost use Rattle.listpages.specs.Answering.{pieceBytes, lines_of, counted, answersOf, ReadsLines, LineEnds, JoinsAnswers};
+ghost use Rattle.listpages.specs.Answering.{piece_bytes, lines_of, counted, answers_of, ReadsLines, LineEnds, JoinsAnswers};
 
 use crate::{Joined, LinesRead, Reading, entries};
 
@@ -26,7 +26,7 @@ fn line_end(bytes: &[u8], from: usize) -> usize
 
 // How many of the bytes are taken.
 fn piece_end(bytes: &[u8]) -> usize
-    ensures { result ≡ length (take pieceBytes bytes.now) }
+    ensures { result ≡ length (take piece_bytes bytes.now) }
 {
     if bytes.len() < PIECE_BYTES {
         bytes.len()
@@ -49,7 +49,7 @@ fn count(refused: bool, k: u64) -> u64
 
 // The answers to the lines of some bytes, one after another.
 fn join_answers(reading: Reading, bytes: &[u8], text: &mut [u8]) -> Joined
-    requires { length (answersOf reading (lines_of bytes.now)) ≤ length text.old }
+    requires { length (answers_of reading (lines_of bytes.now)) ≤ length text.old }
     ensures { JoinsAnswers reading bytes.now result text.old text.new }
 {
     let mut state = reading;

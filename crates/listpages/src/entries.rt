@@ -2,9 +2,9 @@
 ghost use Rattle.std.specs.Prelude.{◌≡◌, [], ◌∷◌, ◌++◌};
 ghost use Rattle.choice.specs.Text.{newline, hex};
 ghost use Rattle.lines.specs.Answers.{Makes};
-ghost use Rattle.pages.specs.Writing.{bytesIn};
-ghost use Rattle.listing.specs.Answers.{readTells};
-ghost use Rattle.listpages.specs.Entries.{entryLine, instructionLine, lineTells, waitsAfter, Answers};
+ghost use Rattle.pages.specs.Writing.{bytes_in};
+ghost use Rattle.listing.specs.Answers.{read_tells};
+ghost use Rattle.listpages.specs.Entries.{entry_line, instruction_line, line_tells, waits_after, Answers};
 ghost use Rattle.listing.specs.Lines.{line_of};
 
 use crate::Answer;
@@ -14,7 +14,7 @@ use run::Ending;
 
 // How many bytes a line has: 0 where the slice was too short.
 pub(crate) fn bytes_in(line: Line) -> usize
-    ensures { result ≡ bytesIn line }
+    ensures { result ≡ bytes_in line }
 {
     match line {
         Line::Made(n) => n,
@@ -34,7 +34,7 @@ fn hex_line(word: u16, out: &mut [u8]) -> Line
 
 // An instruction, or its refusal.
 fn instruction_line(word: u16, out: &mut [u8]) -> Line
-    ensures { Makes (instructionLine (line_of word)) result out.old out.new }
+    ensures { Makes (instruction_line (line_of word)) result out.old out.new }
 {
     let mut line = [0u8; listing::LINE_BYTES + 1];
     match listing::line_of(word, &mut line) {
@@ -52,7 +52,7 @@ fn instruction_line(word: u16, out: &mut [u8]) -> Line
 
 // The line of a word: data where an instruction waits for its operand, or an instruction.
 pub(crate) fn entry_line(waits: bool, word: u16, out: &mut [u8]) -> Line
-    ensures { Makes (entryLine waits word) result out.old out.new }
+    ensures { Makes (entry_line waits word) result out.old out.new }
 {
     if waits {
         hex_line(word, out)
@@ -63,7 +63,7 @@ pub(crate) fn entry_line(waits: bool, word: u16, out: &mut [u8]) -> Line
 
 // What a line of a listing tells.
 fn read_line(waits: bool, line: &[u8]) -> Read
-    ensures { readTells result ≡ lineTells waits line.now }
+    ensures { read_tells result ≡ line_tells waits line.now }
 {
     if waits {
         listing::data_of(line)
@@ -74,7 +74,7 @@ fn read_line(waits: bool, line: &[u8]) -> Read
 
 // Whether an instruction waits for its operand after a word.
 pub(crate) fn waits_after(waits: bool, word: u16) -> bool
-    ensures { result ≡ waitsAfter waits word }
+    ensures { result ≡ waits_after waits word }
 {
     if waits {
         false

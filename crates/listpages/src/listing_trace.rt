@@ -1,13 +1,13 @@
 // A trace, and its listing.
 ghost use Rattle.std.specs.Prelude.{◌≡◌, ◌*◌, ◌≤◌, ◌<◌, length};
-ghost use Rattle.run.specs.Splitting.{cyclesIn};
-ghost use Rattle.run.specs.Runs.{mostCycles};
-ghost use Rattle.trace.specs.Layout.{wordsPerRecord};
+ghost use Rattle.run.specs.Splitting.{cycles_in};
+ghost use Rattle.run.specs.Runs.{most_cycles};
+ghost use Rattle.trace.specs.Layout.{words_per_record};
 ghost use Rattle.lines.specs.Answers.{Makes};
 ghost use Rattle.lines.specs.Putting.{Puts};
 ghost use Rattle.pages.specs.Writing.{Writes};
-ghost use Rattle.listpages.specs.Entries.{refusalAt};
-ghost use Rattle.listpages.specs.Listing.{lineWord, listText, listSaid, listedText, listedSaid};
+ghost use Rattle.listpages.specs.Entries.{refusal_at};
+ghost use Rattle.listpages.specs.Listing.{line_word, list_text, list_said, listed_text, listed_said};
 
 use crate::entries;
 use isa::Decoded;
@@ -24,7 +24,7 @@ pub const LIST_BYTES: usize = LINE_BYTES * MOST_CYCLES;
 
 // The number of a word that is refused, or 0.
 fn refusal_at(waits: bool, word: u16) -> u8
-    ensures { result ≡ refusalAt waits word }
+    ensures { result ≡ refusal_at waits word }
 {
     if waits {
         return 0;
@@ -36,16 +36,16 @@ fn refusal_at(waits: bool, word: u16) -> u8
 }
 
 fn line_word(words: &[u16], i: usize) -> u16
-    requires { i < cyclesIn (length words.now) }
-    ensures { result ≡ lineWord words.now i }
+    requires { i < cycles_in (length words.now) }
+    ensures { result ≡ line_word words.now i }
 {
     words[WORDS_PER_CYCLE * i]
 }
 
 // The lines of some cycle words one after another.
 fn join_lines(words: &[u16], text: &mut [u8]) -> usize
-    requires { length (listText words.now) ≤ length text.old }
-    ensures { Puts (listText words.now) 0 result text.old text.new }
+    requires { length (list_text words.now) ≤ length text.old }
+    ensures { Puts (list_text words.now) 0 result text.old text.new }
 {
     let count = words.len() / WORDS_PER_CYCLE;
     let mut waits = false;
@@ -63,7 +63,7 @@ fn join_lines(words: &[u16], text: &mut [u8]) -> usize
 
 // Of the first refused word it is said why.
 fn say_refused_word(words: &[u16], said: &mut [u8]) -> Line
-    ensures { Makes (listSaid words.now) result said.old said.new }
+    ensures { Makes (list_said words.now) result said.old said.new }
 {
     let count = words.len() / WORDS_PER_CYCLE;
     let mut waits = false;
@@ -85,8 +85,8 @@ fn say_refused_word(words: &[u16], said: &mut [u8]) -> Line
 }
 
 fn list_words(words: &[u16], out: &mut [u8]) -> Line
-    requires { length words.now ≤ wordsPerRecord * mostCycles }
-    ensures { Makes (listText words.now) result out.old out.new }
+    requires { length words.now ≤ words_per_record * most_cycles }
+    ensures { Makes (list_text words.now) result out.old out.new }
 {
     let mut text = [0u8; LIST_BYTES];
     let n = join_lines(words, &mut text);
@@ -95,7 +95,7 @@ fn list_words(words: &[u16], out: &mut [u8]) -> Line
 
 // The listing of a trace: a line for each cycle. A trace that the reader refuses has that one line.
 pub fn list_trace(trace: &[u8], out: &mut [u8], said: &mut [u8]) -> Written
-    ensures { Writes (listedText trace.now) (listedSaid trace.now) result out.old said.old out.new said.new }
+    ensures { Writes (listed_text trace.now) (listed_said trace.now) result out.old said.old out.new said.new }
 {
     let mut cycles = [0u16; trace::CYCLE_WORDS];
     match trace::read(trace, &mut cycles) {

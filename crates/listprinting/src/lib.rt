@@ -1,4 +1,6 @@
 // The programs for listings, over any files: each reads its input, makes calls of `listpages`, and writes what they give.
+#![tactic(auto)]
+
 mod listing_trace; // listing_trace.rt: a trace in, its listing out
 mod reading_list; // reading_list.rt: a listing in, its words out
 
@@ -7,7 +9,7 @@ use listpages::Reading;
 pub use reading_list::read_list;
 
 // The reader after some lines, and whether their answers were written.
-#[derive(Drop)]
+#[derive(Clone, Copy)]
 pub(crate) struct Answered {
     pub(crate) reading: Reading,
     pub(crate) written: bool,

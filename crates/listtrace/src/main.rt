@@ -1,5 +1,7 @@
 // Reads a trace on standard input and prints its instructions by their names, a cycle to a line. What it cannot do, and why, it says on
 // standard error.
+#![tactic(auto)]
+
 use lines::Program;
 
 fn main() {

@@ -9,51 +9,51 @@ use borrow.Author.Tests.{eqb-false}
 use Rattle.choice.specs.Pick.{pick}
 use Rattle.choice.specs.Checks.{refusal}
 use Rattle.isa.specs.declared.Named.{Named}
-use Rattle.isa.specs.Words.{named_by, takesImmediate}
+use Rattle.isa.specs.Words.{named_by, takes_immediate}
 use Rattle.plan.specs.Plans.{plan_of}
 use Rattle.machine.specs.declared.Waiting.{Waiting}
 use Rattle.machine.specs.declared.Waiting.TheVariants.{Nothing, Held}
 use Rattle.machine.specs.declared.Machine.{Machine}
 use Rattle.machine.specs.declared.Words.{Words}
-use Rattle.machine.specs.Judging.{Refuse, Wait, waitingWords, perform, checksOf, wordAbout, operandAbout, acceptedAs, judgementOf}
-use Rattle.machine.specs.Cycles.{Turned, refusedTurn, waitingTurn, performedTurn, turn_of, before, cycleOf}
+use Rattle.machine.specs.Judging.{Refuse, Wait, waiting_words, perform, checks_of, word_about, operand_about, accepted_as, judgement_of}
+use Rattle.machine.specs.Cycles.{Turned, refused_turn, waiting_turn, performed_turn, turn_of, before, cycle_of}
 
 -- a word that waits is something
-pub held-something : (w : ℕ) → Held w ≡ Nothing → ⊥
-held-something w q =
-    let one : ◌≡◌ {A = ℕ} 1 0 = ap waitingWords q in
+pub held_something : (w : ℕ) → Held w ≡ Nothing → ⊥
+held_something w q =
+    let one : ◌≡◌ {A = ℕ} 1 0 = ap waiting_words q in
     omega (arith, one)
 
 module _ (m : Machine) (c : Words) where
   -- the instruction of the word that the cycle is about, with a word waiting or none
   abbrev named : Waiting → Named
-  named x = named_by (wordAbout x c.lines)
+  named x = named_by (word_about x c.lines)
 
   abbrev performed : Waiting → Turned
-  performed x = performedTurn (named x) (plan_of (named x)) (before m c) (operandAbout x c.lines) c.pins
+  performed x = performed_turn (named x) (plan_of (named x)) (before m c) (operand_about x c.lines) c.pins
 
   pub record Ways (x : Waiting) (P : Turned → Type 0) : Type 0 where
-    pub refuses : (k : ℕ) → (k ≡ 0 → ⊥) → P (refusedTurn m k)
-    pub waits : x ≡ Nothing → takesImmediate c.lines ≡ true → P (waitingTurn (before m c) c)
-    pub performs : (x ≡ Nothing → takesImmediate c.lines ≡ false) → P (performed x)
+    pub refuses : (k : ℕ) → (k ≡ 0 → ⊥) → P (refused_turn m k)
+    pub waits : x ≡ Nothing → takes_immediate c.lines ≡ true → P (waiting_turn (before m c) c)
+    pub performs : (x ≡ Nothing → takes_immediate c.lines ≡ false) → P (performed x)
 
   module _ (P : Turned → Type 0) where
-    accepted-way : (x : Waiting) → Ways x P → P (turn_of (acceptedAs x c) m (before m c) c)
-    accepted-way Nothing w = by-test (takesImmediate c.lines) refl
+    accepted-way : (x : Waiting) → Ways x P → P (turn_of (accepted_as x c) m (before m c) c)
+    accepted-way Nothing w = by-test (takes_immediate c.lines) refl
       where
-        by-test : (b : Bool) → takesImmediate c.lines ≡ b → P (turn_of (pick b Wait (perform (named Nothing) 0)) m (before m c) c)
+        by-test : (b : Bool) → takes_immediate c.lines ≡ b → P (turn_of (pick b Wait (perform (named Nothing) 0)) m (before m c) c)
         by-test true e = w.waits refl e
         by-test false e = w.performs (λ z. e)
-    accepted-way (Held x) w = w.performs (λ z. absurd (held-something x z))
+    accepted-way (Held x) w = w.performs (λ z. absurd (held_something x z))
 
-    way-from : (x : Waiting) → Ways x P → P (turn_of (judgementOf x c) m (before m c) c)
-    unfolding judgementOf
-    way-from x w = by-test (eqb (refusal (checksOf x c)) 0) refl
+    way-from : (x : Waiting) → Ways x P → P (turn_of (judgement_of x c) m (before m c) c)
+    unfolding judgement_of
+    way-from x w = by-test (eqb (refusal (checks_of x c)) 0) refl
       where
-        by-test : (b : Bool) → eqb (refusal (checksOf x c)) 0 ≡ b → P (turn_of (pick b (acceptedAs x c) (Refuse (refusal (checksOf x c)))) m (before m c) c)
+        by-test : (b : Bool) → eqb (refusal (checks_of x c)) 0 ≡ b → P (turn_of (pick b (accepted_as x c) (Refuse (refusal (checks_of x c)))) m (before m c) c)
         by-test true e = accepted-way x w
-        by-test false e = w.refuses (refusal (checksOf x c)) (eqb-false (refusal (checksOf x c)) 0 e)
+        by-test false e = w.refuses (refusal (checks_of x c)) (eqb-false (refusal (checks_of x c)) 0 e)
 
-    pub every_way : Ways m.registers.waiting P → P (cycleOf m c)
-    unfolding cycleOf
+    pub every_way : Ways m.registers.waiting P → P (cycle_of m c)
+    unfolding cycle_of
     every_way w = way-from m.registers.waiting w

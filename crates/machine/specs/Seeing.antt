@@ -9,12 +9,12 @@ use Rattle.machine.specs.declared.Registers.{Registers}
 use Rattle.machine.specs.declared.View.{View}
 
 -- what the register of an address holds
-abbrev pub registerAt : Registers → ℕ → ℕ
-registerAt r k = get_or r.ram (k % 32) 0
+abbrev pub register_at : Registers → ℕ → ℕ
+register_at r k = get_or r.ram (k % 32) 0
 
 unfoldable pub view_of : Mode → ℕ → Registers → ℕ → View
 view_of mode k r immediate = record {
-  ram = low (width_of mode) (registerAt r k);
+  ram = low (width_of mode) (register_at r k);
   acc = low (width_of mode) r.acc;
   latch = low (width_of mode) r.latch;
   immediate = low (width_of mode) immediate;
@@ -22,18 +22,18 @@ view_of mode k r immediate = record {
 }
 
 -- D's low byte with zeros above it, and with its top bit above it (document 01, D(0E) and D(SE))
-abbrev pub zeroExtended : ℕ → ℕ
-zeroExtended x = x % 256
+abbrev pub zero_extended : ℕ → ℕ
+zero_extended x = x % 256
 
-abbrev pub signExtended : ℕ → ℕ
-signExtended x = x % 256 + x % 256 / 128 * 0xFF00
+abbrev pub sign_extended : ℕ → ℕ
+sign_extended x = x % 256 + x % 256 / 128 * 0xFF00
 
 -- every operation takes its operands' parts at the width, so in byte mode only the low byte of either extension counts
-abbrev pub operandOf : Source → View → ℕ
-operandOf Zero v = 0
-operandOf Ram v = v.ram
-operandOf Acc v = v.acc
-operandOf Latch v = v.latch
-operandOf Immediate v = v.immediate
-operandOf LatchZeroExtended v = zeroExtended v.latch
-operandOf LatchSignExtended v = signExtended v.latch
+abbrev pub operand_of : Source → View → ℕ
+operand_of Zero v = 0
+operand_of Ram v = v.ram
+operand_of Acc v = v.acc
+operand_of Latch v = v.latch
+operand_of Immediate v = v.immediate
+operand_of LatchZeroExtended v = zero_extended v.latch
+operand_of LatchSignExtended v = sign_extended v.latch

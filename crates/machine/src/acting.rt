@@ -1,7 +1,7 @@
 // What an instruction does with what it sees.
 ghost use Rattle.std.specs.Prelude.{◌≡◌};
-ghost use Rattle.machine.specs.Stepping.{operationOf};
-ghost use Rattle.machine.specs.Acting.{outcomeFor, busOf, widthMask, mask_of, takenStatus, statusFor, performedOf, effectBy, effect_of};
+ghost use Rattle.machine.specs.Stepping.{operation_of};
+ghost use Rattle.machine.specs.Acting.{outcome_for, bus_of, width_mask, mask_of, taken_status, status_for, performed_of, effect_by, effect_of};
 
 use crate::seeing::{place, sources};
 use crate::{Effect, View};
@@ -10,7 +10,7 @@ use plan::{Destination, Plan, Shown, Task};
 
 // All ones at the width.
 fn width_mask(mode: Mode) -> u16
-    ensures { result ≡ widthMask mode }
+    ensures { result ≡ width_mask mode }
 {
     match mode {
         Mode::Byte => 0x00FF,
@@ -21,7 +21,7 @@ fn width_mask(mode: Mode) -> u16
 // The operation of a task on its operands, each as the task has it. NOOP and the tasks of the status compute nothing and are not asked for; a
 // rotate stands in their arms.
 fn operation_of(task: Task, n: u8, first: u16, second: u16, mask: u16) -> Operation
-    ensures { result ≡ operationOf task n first second mask }
+    ensures { result ≡ operation_of task n first second mask }
 {
     match task {
         Task::NoOperation => Operation::Rotate { n, source: first },
@@ -85,7 +85,7 @@ fn outcome_for(
     mask: u16,
     status: u8,
 ) -> Outcome
-    ensures { result ≡ outcomeFor task mode n first second mask status }
+    ensures { result ≡ outcome_for task mode n first second mask status }
 {
     match task {
         Task::NoOperation => Outcome { result: 0, status },
@@ -108,7 +108,7 @@ fn outcome_for(
 
 // What the bus shows of a result.
 fn bus_of(task: Task, res: u16) -> u16
-    ensures { result ≡ busOf task res }
+    ensures { result ≡ bus_of task res }
 {
     match task {
         Task::NoOperation => res,
@@ -142,7 +142,7 @@ fn mask_of(shown: Shown, mode: Mode) -> u16
 
 // Status as a destination.
 fn taken_status(mode: Mode, y: u16, old: u8) -> u8
-    ensures { result ≡ takenStatus mode y old }
+    ensures { result ≡ taken_status mode y old }
 {
     match mode {
         Mode::Byte => old / 16 * 16 + (y % 16) as u8,
@@ -151,7 +151,7 @@ fn taken_status(mode: Mode, y: u16, old: u8) -> u8
 }
 
 fn status_for(destination: Destination, mode: Mode, outcome: Outcome, old: u8) -> u8
-    ensures { result ≡ statusFor destination mode outcome old }
+    ensures { result ≡ status_for destination mode outcome old }
 {
     match destination {
         Destination::ToY => outcome.status,
@@ -163,7 +163,7 @@ fn status_for(destination: Destination, mode: Mode, outcome: Outcome, old: u8) -
 }
 
 fn performed(plan: Plan, view: View) -> Outcome
-    ensures { result ≡ performedOf plan view }
+    ensures { result ≡ performed_of plan view }
 {
     let mode = plan.mode;
     let work = plan.work;
@@ -188,7 +188,7 @@ fn performed(plan: Plan, view: View) -> Outcome
 }
 
 fn effect_by(plan: Plan, outcome: Outcome, old: u8) -> Effect
-    ensures { result ≡ effectBy plan outcome old }
+    ensures { result ≡ effect_by plan outcome old }
 {
     let mode = plan.mode;
     let work = plan.work;

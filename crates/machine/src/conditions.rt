@@ -1,13 +1,13 @@
 // CT and T.
 ghost use Rattle.std.specs.Prelude.{◌≡◌};
-ghost use Rattle.machine.specs.Reporting.{conditionOf, ctByPins, ctOf, tOf};
+ghost use Rattle.machine.specs.Reporting.{condition_of, ct_by_pins, ct_of, t_of};
 
 use crate::pins;
 use plan::Chooser;
 
 // CT by its code: 0 or 1, or 2 for none.
 fn condition(code: u8, status: u8) -> u8
-    ensures { result ≡ conditionOf code status }
+    ensures { result ≡ condition_of code status }
 {
     let z = status % 2;
     let c = status / 2 % 2;
@@ -37,7 +37,7 @@ fn condition(code: u8, status: u8) -> u8
 }
 
 fn ct_by_pins(status: u8, levels: u16) -> u8
-    ensures { result ≡ ctByPins status levels }
+    ensures { result ≡ ct_by_pins status levels }
 {
     if pins::oe_t_high(levels) {
         2
@@ -48,7 +48,7 @@ fn ct_by_pins(status: u8, levels: u16) -> u8
 
 // CT, by the status before the cycle.
 pub(crate) fn ct(chooser: Chooser, status: u8, levels: u16) -> u8
-    ensures { result ≡ ctOf chooser status levels }
+    ensures { result ≡ ct_of chooser status levels }
 {
     match chooser {
         Chooser::Pins => ct_by_pins(status, levels),
@@ -64,7 +64,7 @@ pub(crate) fn ct(chooser: Chooser, status: u8, levels: u16) -> u8
 
 // T, by the status after the cycle.
 pub(crate) fn t(status: u8, levels: u16) -> u8
-    ensures { result ≡ tOf status levels }
+    ensures { result ≡ t_of status levels }
 {
     if pins::oe_t_high(levels) {
         status % 16

@@ -2,16 +2,16 @@
 ghost use Rattle.std.specs.Prelude.{◌≡◌, [], false, eqb};
 ghost use Rattle.choice.specs.Checks.{refusal};
 ghost use Rattle.choice.specs.Pick.{pick};
-ghost use Rattle.plan.specs.Reading.{namesI};
-ghost use Rattle.machine.specs.Judging.{pinChecks, wordAbout};
-ghost use Rattle.machine.specs.Deciding.{immediateIn, onlyBegins, beginBy, secondBy, cycleBy, verdictOf};
+ghost use Rattle.plan.specs.Reading.{names_i};
+ghost use Rattle.machine.specs.Judging.{pin_checks, word_about};
+ghost use Rattle.machine.specs.Deciding.{immediate_in, only_begins, begin_by, second_by, cycle_by, verdict_of};
 
 use crate::{Verdict, Waiting, Words, pins};
 use plan::Work;
 
 // The word that a cycle is about: the one that waits, or its lines.
 fn word_about(waiting: Waiting, lines: u16) -> u16
-    ensures { result ≡ wordAbout waiting lines }
+    ensures { result ≡ word_about waiting lines }
 {
     match waiting {
         Waiting::Nothing => lines,
@@ -21,7 +21,7 @@ fn word_about(waiting: Waiting, lines: u16) -> u16
 
 // The I operand, 0 where there is none.
 fn immediate_in(waiting: Waiting, lines: u16) -> u16
-    ensures { result ≡ immediateIn waiting lines }
+    ensures { result ≡ immediate_in waiting lines }
 {
     match waiting {
         Waiting::Nothing => 0,
@@ -31,7 +31,7 @@ fn immediate_in(waiting: Waiting, lines: u16) -> u16
 
 // Whether a word with this work asks for an I operand; fault is the word's refusal, or 0.
 fn asks_immediate(fault: u8, work: Work) -> bool
-    ensures { result ≡ pick (eqb fault 0) (namesI work) false }
+    ensures { result ≡ pick (eqb fault 0) (names_i work) false }
 {
     if fault == 0 {
         plan::names_immediate(work)
@@ -42,7 +42,7 @@ fn asks_immediate(fault: u8, work: Work) -> bool
 
 // Whether a cycle is the first of two.
 fn only_begins(waiting: Waiting, asks: bool) -> bool
-    ensures { result ≡ onlyBegins waiting asks }
+    ensures { result ≡ only_begins waiting asks }
 {
     match waiting {
         Waiting::Nothing => asks,
@@ -52,7 +52,7 @@ fn only_begins(waiting: Waiting, asks: bool) -> bool
 
 // What the pins are refused with: 5, 6, or 0 for nothing.
 fn pin_refusal(levels: u16) -> u8
-    ensures { result ≡ refusal (pinChecks levels []) }
+    ensures { result ≡ refusal (pin_checks levels []) }
 {
     if pins::stray_pin(levels) {
         return 5;
@@ -62,7 +62,7 @@ fn pin_refusal(levels: u16) -> u8
 
 // What a cycle with nothing waiting is refused with, or 0; fault is its word's own refusal.
 fn begin_refusal(fault: u8, asks: bool, levels: u16) -> u8
-    ensures { result ≡ beginBy fault asks levels }
+    ensures { result ≡ begin_by fault asks levels }
 {
     let number = pin_refusal(levels);
     if number != 0 {
@@ -80,14 +80,14 @@ fn begin_refusal(fault: u8, asks: bool, levels: u16) -> u8
 
 // What a cycle with a word waiting is refused with, or 0.
 fn second_refusal(asks: bool, levels: u16) -> u8
-    ensures { result ≡ secondBy asks levels }
+    ensures { result ≡ second_by asks levels }
 {
     if asks { pin_refusal(levels) } else { 4 }
 }
 
 // What a cycle is refused with, or 0, by its word's refusal and whether it asks for an I operand.
 fn cycle_refusal(waiting: Waiting, fault: u8, asks: bool, levels: u16) -> u8
-    ensures { result ≡ cycleBy waiting fault asks levels }
+    ensures { result ≡ cycle_by waiting fault asks levels }
 {
     match waiting {
         Waiting::Nothing => begin_refusal(fault, asks, levels),
@@ -97,7 +97,7 @@ fn cycle_refusal(waiting: Waiting, fault: u8, asks: bool, levels: u16) -> u8
 
 // Whether a cycle is refused, only begins an instruction, or performs one.
 pub(crate) fn judge(waiting: Waiting, words: Words) -> Verdict
-    ensures { result ≡ verdictOf waiting words }
+    ensures { result ≡ verdict_of waiting words }
 {
     let found = isa::look_up(word_about(waiting, words.lines));
     let named = found.named;

@@ -1,5 +1,7 @@
 // The Am29C116: its state, and one cycle of it. `step` is the cycle with RAM in place, for whoever runs many; `cycle` takes a machine by value
 // and gives it back by value.
+#![tactic(auto)]
+
 use isa::Named;
 use plan::{Destination, Plan};
 
@@ -12,18 +14,18 @@ mod settling; // settling.rt: what is written
 mod conditions; // conditions.rt: CT and T
 
 ghost use Rattle.std.specs.Prelude.{◌≡◌};
-ghost use Rattle.machine.specs.Judging.{mayStart};
-ghost use Rattle.machine.specs.Cycles.{cycleOf, turnTells};
-ghost use Rattle.machine.specs.Stepping.{machineFrom, core_of, reportIn, stepTells, Steps};
+ghost use Rattle.machine.specs.Judging.{may_start};
+ghost use Rattle.machine.specs.Cycles.{cycle_of, turn_tells};
+ghost use Rattle.machine.specs.Stepping.{machine_from, core_of, report_in, step_tells, Steps};
 
 // The word of an instruction with an I operand, between its two cycles.
-#[derive(Drop)]
+#[derive(Clone, Copy)]
 pub enum Waiting {
     Nothing,
     Held(u16),
 }
 
-#[derive(Drop)]
+#[derive(Clone, Copy)]
 pub struct Registers {
     pub ram: [u16; 32],
     pub acc: u16,
@@ -33,7 +35,7 @@ pub struct Registers {
 }
 
 // The registers but RAM.
-#[derive(Drop)]
+#[derive(Clone, Copy)]
 pub struct Core {
     pub acc: u16,
     pub latch: u16,
@@ -41,13 +43,13 @@ pub struct Core {
     pub waiting: Waiting,
 }
 
-#[derive(Drop)]
+#[derive(Clone, Copy)]
 pub struct Machine {
     pub registers: Registers,
 }
 
 // The words of a cycle: the instruction lines, the Y input and the pins.
-#[derive(Drop)]
+#[derive(Clone, Copy)]
 pub struct Words {
     pub lines: u16,
     pub input: u16,
@@ -55,14 +57,14 @@ pub struct Words {
 }
 
 // What a cycle completed.
-#[derive(Drop)]
+#[derive(Clone, Copy)]
 pub enum Completed {
     NoInstruction,
     Instruction(Named),
 }
 
 // What a cycle shows: Y and its known bits, CT (2 for none) and T (16 for not driven); and what it completed.
-#[derive(Drop)]
+#[derive(Clone, Copy)]
 pub struct Report {
     pub y: u16,
     pub mask: u16,
@@ -72,14 +74,14 @@ pub struct Report {
 }
 
 // A report, or the number of the refusal.
-#[derive(Drop)]
+#[derive(Clone, Copy)]
 pub enum Answer {
     Accepted(Report),
     Refused(u8),
 }
 
 // What a cycle gives: the machine after it, which a refused cycle leaves as it was, and the answer.
-#[derive(Drop)]
+#[derive(Clone, Copy)]
 pub struct Turn {
     pub machine: Machine,
     pub answer: Answer,
@@ -88,7 +90,7 @@ pub struct Turn {
 // What a step leaves besides RAM, and tells: the core; the number of its refusal, or 0; what it shows; whether it only begins an instruction;
 // and the instruction of the word that it is about. Of a refused step only the core and the number mean something. Plain fields, as isa's
 // `Lookup` has them.
-#[derive(Drop)]
+#[derive(Clone, Copy)]
 pub struct Stepped {
     pub core: Core,
     pub refusal: u8,
@@ -102,7 +104,7 @@ pub struct Stepped {
 
 // What a cycle is judged to be: the number of its refusal or 0, whether it only begins an instruction, and the instruction of the word that
 // it is about with its plan and its I operand. Plain fields, too.
-#[derive(Drop)]
+#[derive(Clone, Copy)]
 pub struct Verdict {
     pub refusal: u8,
     pub begins: bool,
@@ -112,7 +114,7 @@ pub struct Verdict {
 }
 
 // What an instruction sees: every word at its width, and the status.
-#[derive(Drop)]
+#[derive(Clone, Copy)]
 pub struct View {
     pub ram: u16,
     pub acc: u16,
@@ -122,7 +124,7 @@ pub struct View {
 }
 
 // What an instruction does: the result for its destination, what the bus shows of it, and the status that it would leave.
-#[derive(Drop)]
+#[derive(Clone, Copy)]
 pub struct Effect {
     pub result: u16,
     pub shown: u16,
@@ -133,7 +135,7 @@ pub struct Effect {
 
 // Whether a run may start here: nothing waits, or an accepted word with an I operand.
 pub fn may_start(waiting: Waiting) -> bool
-    ensures { result ≡ mayStart waiting }
+    ensures { result ≡ may_start waiting }
 {
     match waiting {
         Waiting::Nothing => true,
@@ -156,7 +158,7 @@ pub fn core_of(registers: Registers) -> Core
 
 // A machine put together of RAM and the other registers.
 pub fn machine_from(ram: [u16; 32], core: Core) -> Machine
-    ensures { result ≡ machineFrom ram core }
+    ensures { result ≡ machine_from ram core }
 {
     let waiting = core.waiting;
     let registers = Registers {
@@ -191,7 +193,7 @@ pub fn step(ram: &mut [u16; 32], core: Core, words: Words) -> Stepped
 
 // What a step that is not refused completed.
 fn completed_by(stepped: Stepped) -> Completed
-    ensures { result ≡ (reportIn stepped).completed }
+    ensures { result ≡ (report_in stepped).completed }
 {
     let named = stepped.named;
     if stepped.begins {
@@ -203,7 +205,7 @@ fn completed_by(stepped: Stepped) -> Completed
 
 // A step and the RAM that it left, as `cycle` gives them.
 fn turn_of(ram: [u16; 32], stepped: Stepped) -> Turn
-    ensures { turnTells result ≡ stepTells ram stepped }
+    ensures { turn_tells result ≡ step_tells ram stepped }
 {
     let core = stepped.core;
     let machine = machine_from(ram, core);
@@ -228,7 +230,7 @@ fn turn_of(ram: [u16; 32], stepped: Stepped) -> Turn
 
 // One cycle of a machine that goes in by value and comes back by value.
 pub fn cycle(machine: Machine, words: Words) -> Turn
-    ensures { turnTells result ≡ cycleOf machine words }
+    ensures { turn_tells result ≡ cycle_of machine words }
 {
     let registers = machine.registers;
     let mut ram = registers.ram;

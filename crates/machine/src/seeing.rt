@@ -1,7 +1,7 @@
 // What an instruction sees, and the operands it takes from that.
 ghost use Rattle.std.specs.Prelude.{◌≡◌, ◌<◌};
 ghost use Rattle.alu.specs.Width.{width_of, low};
-ghost use Rattle.machine.specs.Stepping.{seenOf, sourcesOf, place_of};
+ghost use Rattle.machine.specs.Stepping.{seen_of, sources_of, place_of};
 
 use crate::{Core, View};
 use alu::Mode;
@@ -19,7 +19,7 @@ fn at_width(mode: Mode, x: u16) -> u16
 
 // What an instruction sees; word is its register's.
 pub(crate) fn seen(mode: Mode, word: u16, core: Core, immediate: u16) -> View
-    ensures { result ≡ seenOf mode word core immediate }
+    ensures { result ≡ seen_of mode word core immediate }
 {
     View {
         ram: at_width(mode, word),
@@ -33,7 +33,7 @@ pub(crate) fn seen(mode: Mode, word: u16, core: Core, immediate: u16) -> View
 // Every word that an operand can be, in the order of the sources. An operand is read by its place here, because a processor cannot guess jumps
 // over the sources.
 pub(crate) fn sources(view: View) -> [u16; 7]
-    ensures { result ≡ sourcesOf view }
+    ensures { result ≡ sources_of view }
 {
     [
         0,

@@ -1,7 +1,7 @@
 // The only writer of registers.
 ghost use Rattle.std.specs.Prelude.{◌≡◌};
-ghost use Rattle.machine.specs.Settling.{accAfter, statusAfter};
-ghost use Rattle.machine.specs.Stepping.{latchedCore, waitingCore, wordAfter, settledWord, settledRam, settledAcc, settledCore};
+ghost use Rattle.machine.specs.Settling.{acc_after, status_after};
+ghost use Rattle.machine.specs.Stepping.{latched_core, waiting_core, word_after, settled_word, settled_ram, settled_acc, settled_core};
 
 use crate::{Core, Effect, Waiting, pins};
 use alu::Mode;
@@ -9,7 +9,7 @@ use plan::Destination;
 
 // D takes the Y input where DLE is high.
 pub(crate) fn latched(core: Core, input: u16, levels: u16) -> Core
-    ensures { result ≡ latchedCore core input levels }
+    ensures { result ≡ latched_core core input levels }
 {
     let mut next = core;
     if pins::dle_high(levels) {
@@ -20,7 +20,7 @@ pub(crate) fn latched(core: Core, input: u16, levels: u16) -> Core
 
 // The word of a first immediate cycle is kept.
 pub(crate) fn with_waiting(core: Core, waiting: Waiting) -> Core
-    ensures { result ≡ waitingCore core waiting }
+    ensures { result ≡ waiting_core core waiting }
 {
     Core {
         acc: core.acc,
@@ -31,7 +31,7 @@ pub(crate) fn with_waiting(core: Core, waiting: Waiting) -> Core
 }
 
 fn word_after(destination: Destination, mode: Mode, res: u16, word: u16) -> u16
-    ensures { result ≡ wordAfter destination mode res word }
+    ensures { result ≡ word_after destination mode res word }
 {
     match destination {
         Destination::ToY => word,
@@ -43,7 +43,7 @@ fn word_after(destination: Destination, mode: Mode, res: u16, word: u16) -> u16
 }
 
 fn settled_word(mode: Mode, effect: Effect, word: u16, levels: u16) -> u16
-    ensures { result ≡ settledWord mode effect word levels }
+    ensures { result ≡ settled_word mode effect word levels }
 {
     let destination = effect.destination;
     if pins::ien_high(levels) {
@@ -56,7 +56,7 @@ fn settled_word(mode: Mode, effect: Effect, word: u16, levels: u16) -> u16
 // RAM after an instruction; register is the one that is written. Its word is put back whatever the destination is, possibly as it was, so that
 // no jump hangs on the destination.
 pub(crate) fn settle_ram(ram: &mut [u16; 32], register: u8, mode: Mode, effect: Effect, levels: u16)
-    ensures { ram.new ≡ settledRam mode register ram.old effect levels }
+    ensures { ram.new ≡ settled_ram mode register ram.old effect levels }
 {
     let at = (register % 32) as usize;
     let word = ram[at];
@@ -64,7 +64,7 @@ pub(crate) fn settle_ram(ram: &mut [u16; 32], register: u8, mode: Mode, effect: 
 }
 
 fn acc_after(destination: Destination, mode: Mode, res: u16, acc: u16) -> u16
-    ensures { result ≡ accAfter destination mode res acc }
+    ensures { result ≡ acc_after destination mode res acc }
 {
     match destination {
         Destination::ToY => acc,
@@ -76,13 +76,13 @@ fn acc_after(destination: Destination, mode: Mode, res: u16, acc: u16) -> u16
 }
 
 fn status_after(old: u8, new: u8, levels: u16) -> u8
-    ensures { result ≡ statusAfter old new levels }
+    ensures { result ≡ status_after old new levels }
 {
     if pins::both_low(levels) { new } else { old }
 }
 
 fn settled_acc(mode: Mode, effect: Effect, acc: u16, levels: u16) -> u16
-    ensures { result ≡ settledAcc mode acc effect levels }
+    ensures { result ≡ settled_acc mode acc effect levels }
 {
     let destination = effect.destination;
     if pins::ien_high(levels) {
@@ -94,7 +94,7 @@ fn settled_acc(mode: Mode, effect: Effect, acc: u16, levels: u16) -> u16
 
 // The registers but RAM after an instruction.
 pub(crate) fn settled_core(mode: Mode, core: Core, effect: Effect, levels: u16) -> Core
-    ensures { result ≡ settledCore mode core effect levels }
+    ensures { result ≡ settled_core mode core effect levels }
 {
     Core {
         acc: settled_acc(mode, effect, core.acc, levels),

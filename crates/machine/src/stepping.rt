@@ -1,8 +1,8 @@
 // What a judged cycle does, with RAM in place: a refused one nothing; a first immediate cycle waits; an instruction sees, acts and settles.
 ghost use Rattle.std.specs.Prelude.{◌≡◌};
 ghost use Rattle.choice.specs.Pick.{pick};
-ghost use Rattle.machine.specs.Pins.{oeYHigh};
-ghost use Rattle.machine.specs.Stepping.{refusedStep, waitingStep, Performed};
+ghost use Rattle.machine.specs.Pins.{oe_yHigh};
+ghost use Rattle.machine.specs.Stepping.{refused_step, waiting_step, Performed};
 
 use crate::{Core, Stepped, Waiting, Words, acting, conditions, pins, seeing, settling};
 use isa::Named;
@@ -10,7 +10,7 @@ use plan::{Chooser, Plan};
 
 // The core as it was, and fields that tell nothing: no CT, T not driven.
 pub(crate) fn refused(named: Named, core: Core, number: u8) -> Stepped
-    ensures { result ≡ refusedStep named core number }
+    ensures { result ≡ refused_step named core number }
 {
     Stepped {
         core: core,
@@ -26,7 +26,7 @@ pub(crate) fn refused(named: Named, core: Core, number: u8) -> Stepped
 
 // A first immediate cycle, with D latched already.
 pub(crate) fn waits(named: Named, core: Core, words: Words) -> Stepped
-    ensures { result ≡ waitingStep named core words }
+    ensures { result ≡ waiting_step named core words }
 {
     Stepped {
         core: settling::with_waiting(core, Waiting::Held(words.lines)),
@@ -42,7 +42,7 @@ pub(crate) fn waits(named: Named, core: Core, words: Words) -> Stepped
 
 // What Y shows of a word.
 fn on_y(levels: u16, x: u16) -> u16
-    ensures { result ≡ pick (oeYHigh levels) 0 x }
+    ensures { result ≡ pick (oe_yHigh levels) 0 x }
 {
     if pins::oe_y_high(levels) { 0 } else { x }
 }

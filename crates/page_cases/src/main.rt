@@ -1,5 +1,7 @@
 // Reads traces on standard input and prints the page of each, as runtrace would. A case is a header line "LLLLLL ZZZZZZ" and a payload of
 // L bytes; the trace is the payload and Z zeros after it.
+#![tactic(auto)]
+
 ghost use Rattle.std.specs.Prelude.{◌≤◌, ◌<◌, length};
 
 use libc::{STDIN_FILENO, STDOUT_FILENO};

@@ -13,74 +13,74 @@ use Rattle.machine.specs.declared.Waiting.{Waiting}
 use Rattle.run.specs.declared.Ending.{Ending}
 use Rattle.run.specs.declared.Ending.TheVariants.{Done, Stopped, Refused}
 use Rattle.run.specs.declared.Ran.{Ran}
-use Rattle.run.specs.Splitting.{wordsPerReport, wordsPerCycle, cycleAt, cyclesIn}
-use Rattle.run.specs.Courses.{Course, reportsOf}
-use Rattle.run.specs.Runs.{mostCycles, startRefusal, run_of, zeroMachine, fullBudget, summaryOf, ranTells, Gives, ranOf}
-use Rattle.run.proofs.Courses.{reports-length, steps-le}
-use Rattle.run.proofs.Starting.{started, refused-whole}
+use Rattle.run.specs.Splitting.{words_per_report, words_per_cycle, cycle_at, cycles_in}
+use Rattle.run.specs.Courses.{Course, reports_of}
+use Rattle.run.specs.Runs.{most_cycles, start_refusal, run_of, zero_machine, full_budget, summary_of, ran_tells, Gives, ran_of}
+use Rattle.run.proofs.Courses.{reports_length, steps_le}
+use Rattle.run.proofs.Starting.{started, refused_whole}
 use borrow.Author.Tests.{eqb-true, leb-true, leb-false}
 use Rattle.trace.specs.declared.Filled.TheVariants.{Accepted as Read, Refused as NotRead}
-use Rattle.trace.specs.Layout.{wordsPerRecord}
-use Rattle.trace.specs.Limits.{blocksFor}
-use Rattle.trace.specs.Reading.{read_of, readWords, Reads}
-use Rattle.trace.specs.Writing.{traceOf, writeOf, Writes}
-use Rattle.trace.proofs.Answered.{read-says, write-says}
-use Rattle.trace.proofs.Round.{made-trace-long}
+use Rattle.trace.specs.Layout.{words_per_record}
+use Rattle.trace.specs.Limits.{blocks_for}
+use Rattle.trace.specs.Reading.{read_of, read_words, Reads}
+use Rattle.trace.specs.Writing.{trace_of, write_of, Writes}
+use Rattle.trace.proofs.Answered.{read_says, write_says}
+use Rattle.trace.proofs.Round.{made_trace_long}
 use Rattle.trace.proofs.Trips.{left_by}
 use Rattle.lines.specs.declared.Line.{Line}
 use Rattle.lines.specs.declared.Program.TheVariants.{RunTrace}
 use Rattle.lines.specs.declared.Remark.TheVariants.{Refusal}
 use Rattle.lines.specs.Answers.{Makes}
-use Rattle.lines.specs.Remarks.{remarkLine}
-use Rattle.lines.proofs.Answered.{makes-as}
-use Rattle.pages.specs.Running.{reading_of, ifAccepted, courseOf, ranFrom, endSaid}
-use Rattle.pages.specs.Packing.{writingOf}
+use Rattle.lines.specs.Remarks.{remark_line}
+use Rattle.lines.proofs.Answered.{makes_as}
+use Rattle.pages.specs.Running.{reading_of, if_accepted, course_of, ran_from, end_said}
+use Rattle.pages.specs.Packing.{writing_of}
 
 -- room for the words of every trace
-abbrev pub cycleRoom : ℕ
-cycleRoom = wordsPerRecord * mostCycles
+abbrev pub cycle_room : ℕ
+cycle_room = words_per_record * most_cycles
 
-module _ (t cycles cycles' : List ℕ) (size : length cycles ≡ cycleRoom) where
-  room-is : read_of wordsPerRecord t (length cycles) ≡ reading_of t
-  room-is = ap (read_of wordsPerRecord t) size
+module _ (t cycles cycles' : List ℕ) (size : length cycles ≡ cycle_room) where
+  room-is : read_of words_per_record t (length cycles) ≡ reading_of t
+  room-is = ap (read_of words_per_record t) size
 
-  pub not-read : (k i : ℕ) → Reads t (NotRead k i) cycles cycles' → (text : List ℕ) (refusal : ℕ → ℕ → List ℕ) → ifAccepted (reading_of t) text refusal ≡ refusal k i
-  not-read k i r text refusal = ap (λ (a : Placed ℕ). ifAccepted a text refusal) (sym room-is ∙ sym r.told)
+  pub not-read : (k i : ℕ) → Reads t (NotRead k i) cycles cycles' → (text : List ℕ) (refusal : ℕ → ℕ → List ℕ) → if_accepted (reading_of t) text refusal ≡ refusal k i
+  not-read k i r text refusal = ap (λ (a : Placed ℕ). if_accepted a text refusal) (sym room-is ∙ sym r.told)
 
   module _ (n : ℕ) (r : Reads t (Read n) cycles cycles') (same : length cycles' ≡ length cycles) where
-    pub is_read : (text : List ℕ) (refusal : ℕ → ℕ → List ℕ) → ifAccepted (reading_of t) text refusal ≡ text
-    is_read text refusal = ap (λ (a : Placed ℕ). ifAccepted a text refusal) (sym room-is ∙ sym r.told)
+    pub is_read : (text : List ℕ) (refusal : ℕ → ℕ → List ℕ) → if_accepted (reading_of t) text refusal ≡ text
+    is_read text refusal = ap (λ (a : Placed ℕ). if_accepted a text refusal) (sym room-is ∙ sym r.told)
 
     pub words-le : n ≤ length cycles
-    words-le = let says = read-says 3 t (length cycles) n (sym r.told) in omega (arith, says.room-enough, says.words)
+    words-le = let says = read_says 3 t (length cycles) n (sym r.told) in omega (arith, says.room_enough, says.words)
 
-    filled : cycles' ≡ readWords 3 t ++ drop n cycles
-    filled = left_by (read_of 3 t (length cycles)) n (readWords 3 t) cycles cycles' (sym r.told) r.written
+    filled : cycles' ≡ read_words 3 t ++ drop n cycles
+    filled = left_by (read_of 3 t (length cycles)) n (read_words 3 t) cycles cycles' (sym r.told) r.written
 
-    long : length (readWords 3 t) ≡ n
+    long : length (read_words 3 t) ≡ n
     long =
-        let both : length cycles' ≡ length (readWords 3 t) + length (drop n cycles) = ap length filled ∙ length-append (readWords 3 t) (drop n cycles) in
+        let both : length cycles' ≡ length (read_words 3 t) + length (drop n cycles) = ap length filled ∙ length-append (read_words 3 t) (drop n cycles) in
         omega (arith, both, same, length-drop n cycles, words-le)
 
-    pub words-read : take n cycles' ≡ readWords wordsPerRecord t
-    words-read = ap (take n) filled ∙ take_at (readWords 3 t) (drop n cycles) n long
+    pub words-read : take n cycles' ≡ read_words words_per_record t
+    words-read = ap (take n) filled ∙ take_at (read_words 3 t) (drop n cycles) n long
 
 module _ (words out out' : List ℕ) where
-  pub not_written : (k i : ℕ) → Writes words (NotRead k i) out out' → (text : List ℕ) (refusal : ℕ → ℕ → List ℕ) → ifAccepted (writingOf words (length out)) text refusal ≡ refusal k i
-  not_written k i w text refusal = ap (λ (a : Placed ℕ). ifAccepted a text refusal) (sym w.told)
+  pub not_written : (k i : ℕ) → Writes words (NotRead k i) out out' → (text : List ℕ) (refusal : ℕ → ℕ → List ℕ) → if_accepted (writing_of words (length out)) text refusal ≡ refusal k i
+  not_written k i w text refusal = ap (λ (a : Placed ℕ). if_accepted a text refusal) (sym w.told)
 
   pub kept_out : (k i : ℕ) → Writes words (NotRead k i) out out' → out' ≡ out
-  kept_out k i w = w.written ∙ ap (λ (a : Placed ℕ). elim a.told.value [ some n ↦ traceOf 3 words ++ drop n out | none ↦ out ]) (sym w.told)
+  kept_out k i w = w.written ∙ ap (λ (a : Placed ℕ). elim a.told.value [ some n ↦ trace_of 3 words ++ drop n out | none ↦ out ]) (sym w.told)
 
   module _ (n : ℕ) (w : Writes words (Read n) out out') where
-    pub is-written : (text : List ℕ) (refusal : ℕ → ℕ → List ℕ) → ifAccepted (writingOf words (length out)) text refusal ≡ text
-    is-written text refusal = ap (λ (a : Placed ℕ). ifAccepted a text refusal) (sym w.told)
+    pub is-written : (text : List ℕ) (refusal : ℕ → ℕ → List ℕ) → if_accepted (writing_of words (length out)) text refusal ≡ text
+    is-written text refusal = ap (λ (a : Placed ℕ). if_accepted a text refusal) (sym w.told)
 
-    pub trace-long : length (traceOf wordsPerRecord words) ≡ n
-    trace-long = made-trace-long 3 (blocksFor (length words)) 0 words ∙ (write-says 3 (length words) (length out) n (sym w.told)).3
+    pub trace-long : length (trace_of words_per_record words) ≡ n
+    trace-long = made_trace_long 3 (blocks_for (length words)) 0 words ∙ (write_says 3 (length words) (length out) n (sym w.told)).3
 
-    pub trace-out : out' ≡ traceOf wordsPerRecord words ++ drop n out
-    trace-out = left_by (writeOf 3 (length words) (length out)) n (traceOf 3 words) out out' (sym w.told) w.written
+    pub trace-out : out' ≡ trace_of words_per_record words ++ drop n out
+    trace-out = left_by (write_of 3 (length words) (length out)) n (trace_of 3 words) out out' (sym w.told) w.written
 
 -- the words found, as many as there are
 module _ (n m : ℕ) (words : List ℕ) (e : n ≡ length (take m words)) where
@@ -100,44 +100,44 @@ module _ (n m : ℕ) (words : List ℕ) (e : n ≡ length (take m words)) where
           take_all n words whole ∙ sym (take_all m words over)
 
 -- a run's answer is the one that its course gives
-ran-told : (r : Ran) → r ≡ ranOf (ranTells r)
-ran-told r = by-ending r.ending
+ran_told : (r : Ran) → r ≡ ran_of (ran_tells r)
+ran_told r = by-ending r.ending
   where
     by-ending : (e : Ending) → record { machine = r.machine; ending = e; accepted = r.accepted; completed = r.completed }
-        ≡ ranOf (ranTells (record { machine = r.machine; ending = e; accepted = r.accepted; completed = r.completed }))
+        ≡ ran_of (ran_tells (record { machine = r.machine; ending = e; accepted = r.accepted; completed = r.completed }))
     by-ending Done = refl
     by-ending Stopped = refl
     by-ending (Refused k i) = refl
 
-pub few-steps : (words : List ℕ) → length (courseOf words).steps ≤ mostCycles
-few-steps words = by-test (eqb (startRefusal zeroMachine words (wordsPerReport * mostCycles)) 0) refl
+pub few_steps : (words : List ℕ) → length (course_of words).steps ≤ most_cycles
+few_steps words = by-test (eqb (start_refusal zero_machine words (words_per_report * most_cycles)) 0) refl
   where
-    by-test : (b : Bool) → eqb (startRefusal zeroMachine words (wordsPerReport * mostCycles)) 0 ≡ b → length (courseOf words).steps ≤ mostCycles
+    by-test : (b : Bool) → eqb (start_refusal zero_machine words (words_per_report * most_cycles)) 0 ≡ b → length (course_of words).steps ≤ most_cycles
     by-test true q =
-        rw (started zeroMachine words fullBudget (wordsPerReport * mostCycles) (eqb-true _ 0 q))
-        (steps-le zeroMachine fullBudget words 0 (cyclesIn (length words))).1
-    by-test false q = rw (refused-whole zeroMachine words fullBudget (wordsPerReport * mostCycles) q) (omega arith)
+        rw (started zero_machine words full_budget (words_per_report * most_cycles) (eqb-true _ 0 q))
+        (steps_le zero_machine full_budget words 0 (cycles_in (length words))).1
+    by-test false q = rw (refused_whole zero_machine words full_budget (words_per_report * most_cycles) q) (omega arith)
 
-module _ (words reports reports' : List ℕ) (r : Ran) (size : length reports ≡ wordsPerReport * mostCycles) (g : Gives zeroMachine (run_of zeroMachine words fullBudget (length reports)) r reports reports') where
-  course-is : run_of zeroMachine words fullBudget (length reports) ≡ courseOf words
-  course-is = ap (run_of zeroMachine words fullBudget) size
+module _ (words reports reports' : List ℕ) (r : Ran) (size : length reports ≡ words_per_report * most_cycles) (g : Gives zero_machine (run_of zero_machine words full_budget (length reports)) r reports reports') where
+  course-is : run_of zero_machine words full_budget (length reports) ≡ course_of words
+  course-is = ap (run_of zero_machine words full_budget) size
 
-  pub ran-is : r ≡ ranFrom words
-  ran-is = ran-told r ∙ ap ranOf (g.answer ∙ ap (summaryOf zeroMachine) course-is)
+  pub ran-is : r ≡ ran_from words
+  ran-is = ran_told r ∙ ap ran_of (g.answer ∙ ap (summary_of zero_machine) course-is)
 
-  pub accepted-le : r.accepted ≤ mostCycles
-  accepted-le = rw ran-is (few-steps words)
+  pub accepted-le : r.accepted ≤ most_cycles
+  accepted-le = rw ran-is (few_steps words)
 
-  pub reports-are : take (wordsPerReport * r.accepted) reports' ≡ reportsOf (courseOf words).steps
+  pub reports-are : take (words_per_report * r.accepted) reports' ≡ reports_of (course_of words).steps
   reports-are =
-      let all = reportsOf (courseOf words).steps in
-      let count : length all ≡ wordsPerReport * r.accepted = reports-length (courseOf words).steps ∙ ap (λ (x : Ran). wordsPerReport * x.accepted) (sym ran-is) in
-      let left : reports' ≡ all ++ drop (length all) reports = g.written ∙ ap (λ (c : Course). reportsOf c.steps ++ drop (length (reportsOf c.steps)) reports) course-is in
-      ap (take (wordsPerReport * r.accepted)) left ∙ take_at all (drop (length all) reports) (wordsPerReport * r.accepted) count
+      let all = reports_of (course_of words).steps in
+      let count : length all ≡ words_per_report * r.accepted = reports_length (course_of words).steps ∙ ap (λ (x : Ran). words_per_report * x.accepted) (sym ran-is) in
+      let left : reports' ≡ all ++ drop (length all) reports = g.written ∙ ap (λ (c : Course). reports_of c.steps ++ drop (length (reports_of c.steps)) reports) course-is in
+      ap (take (words_per_report * r.accepted)) left ∙ take_at all (drop (length all) reports) (words_per_report * r.accepted) count
 
 -- a refused cycle's words are those of its place
-pub refusal-said : (words : List ℕ) (k i w p : ℕ) (waiting : Waiting) {r : Line} {before after : List ℕ} → w ≡ get_or words (wordsPerCycle * i + 0) 0 → p ≡ get_or words (wordsPerCycle * i + 2) 0
-    → Makes (remarkLine RunTrace (Refusal k i w p)) r before after → Makes (endSaid words (Refused k i) waiting) r before after
-refusal-said words k i w p waiting e f m =
-    let place : wordsPerCycle * i + 0 ≡ wordsPerCycle * i = omega arith in
-    makes-as (ap (λ (x : ℕ). remarkLine RunTrace (Refusal k i x p)) (e ∙ ap (λ (j : ℕ). get_or words j 0) place) ∙ ap (λ (x : ℕ). remarkLine RunTrace (Refusal k i (cycleAt words i).lines x)) f) m
+pub refusal_said_lem : (words : List ℕ) (k i w p : ℕ) (waiting : Waiting) {r : Line} {before after : List ℕ} → w ≡ get_or words (words_per_cycle * i + 0) 0 → p ≡ get_or words (words_per_cycle * i + 2) 0
+    → Makes (remark_line RunTrace (Refusal k i w p)) r before after → Makes (end_said words (Refused k i) waiting) r before after
+refusal_said_lem words k i w p waiting e f m =
+    let place : words_per_cycle * i + 0 ≡ words_per_cycle * i = omega arith in
+    makes_as (ap (λ (x : ℕ). remark_line RunTrace (Refusal k i x p)) (e ∙ ap (λ (j : ℕ). get_or words j 0) place) ∙ ap (λ (x : ℕ). remark_line RunTrace (Refusal k i (cycle_at words i).lines x)) f) m

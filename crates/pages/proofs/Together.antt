@@ -11,10 +11,10 @@ use Rattle.lines.specs.declared.Line.{Line}
 use Rattle.lines.specs.Answers.{Makes}
 use Rattle.lines.specs.Pages.{lines_from}
 use Rattle.lines.specs.Putting.{Puts}
-use Rattle.lines.proofs.Answered.{made-fits}
-use Rattle.lines.proofs.Putting.{puts-both, puts-part, part-long}
+use Rattle.lines.proofs.Answered.{made_fits}
+use Rattle.lines.proofs.Putting.{puts_both, puts-part, part-long}
 use Rattle.trace.specs.Layout.{joined}
-use Rattle.pages.specs.Writing.{bytesIn}
+use Rattle.pages.specs.Writing.{bytes_in}
 
 -- what a part of a text from `at` on becomes, once a callee has changed it
 abbrev pub changed : List ℕ → ℕ → List ℕ → List ℕ
@@ -28,10 +28,10 @@ module _ (line : List ℕ) (r : Line) (text part : List ℕ) (at : ℕ) (h : at 
   rest-is : rest ≡ drop at text
   rest-is = take_all (length text - at) (drop at text) (rw (length-drop at text) (omega arith))
 
-  fits : (bytesIn r ≡ length line) × (part ≡ line ++ drop (length line) rest)
+  fits : (bytes_in r ≡ length line) × (part ≡ line ++ drop (length line) rest)
   fits =
-      let f = made-fits line r rest part m (rw (rest-is, length-drop at text) (omega arith)) in
-      (ap bytesIn f.0, f.1)
+      let f = made_fits line r rest part m (rw (rest-is, length-drop at text) (omega arith)) in
+      (ap bytes_in f.0, f.1)
 
   same : changed text at part ≡ take at text ++ (line ++ drop (at + length line - at) (drop at text))
   same =
@@ -41,15 +41,15 @@ module _ (line : List ℕ) (r : Line) (text part : List ℕ) (at : ℕ) (h : at 
       ap (λ (l : List ℕ). take at text ++ (part ++ l)) none
       ∙ ap (λ (l : List ℕ). take at text ++ l) (append-nil part ∙ fits.1 ∙ ap (λ (l : List ℕ). line ++ drop (length line) l) rest-is ∙ ap (λ (k : ℕ). line ++ drop k (drop at text)) size)
 
-  pub made_at : Puts line at (at + bytesIn r) text (changed text at part)
+  pub made_at : Puts line at (at + bytes_in r) text (changed text at part)
   made_at =
       subst (λ (k : ℕ). Puts line at (at + k) text (changed text at part)) (sym fits.0)
       (subst (λ (l : List ℕ). Puts line at (at + length line) text l) (sym same) (puts-part text line line at (at + length line) refl refl room))
 
-  pub made-long : length (changed text at part) ≡ length text
-  made-long = ap length same ∙ part-long text line line at (at + length line) refl refl room
+  pub made_long : length (changed text at part) ≡ length text
+  made_long = ap length same ∙ part-long text line line at (at + length line) refl refl room
 
-  pub made_bytes : bytesIn r ≡ length line
+  pub made_bytes : bytes_in r ≡ length line
   made_bytes = fits.0
 
 module _ (line : ℕ → List ℕ) where
@@ -102,15 +102,15 @@ module _ (line : ℕ → List ℕ) where
           by_end k e =
               omega (arith, j.put.end, j.long, enough, subst (λ (x : ℕ). length (joined (lines_from line 0 i)) + length (line i) ≤ length (joined (lines_from line 0 x))) e (within i k))
 
-      pub grown : (r : Line) (part : List ℕ) → Makes (line i) r (take (length text - at) (drop at text)) part → at + bytesIn r ≤ length text
+      pub grown : (r : Line) (part : List ℕ) → Makes (line i) r (take (length text - at) (drop at text)) part → at + bytes_in r ≤ length text
       grown r part m = omega (arith, made_bytes (line i) r text part at at-le m room, room)
 
       pub turn : (r : Line) (part : List ℕ) → Makes (line i) r (take (length text - at) (drop at text)) part
-          → Joins n start (changed text at part) (at + bytesIn r) (i + 1)
+          → Joins n start (changed text at part) (at + bytes_in r) (i + 1)
       turn r part m = record {
         few = omega arith;
-        long = made-long (line i) r text part at at-le m room ∙ j.long;
-        put = subst (λ (l : List ℕ). Puts l 0 (at + bytesIn r) start (changed text at part)) (sym (ap (λ (k : ℕ). joined (lines_from line 0 k)) (add-one i) ∙ first_next i)) (puts-both j.put (made_at (line i) r text part at at-le m room));
+        long = made_long (line i) r text part at at-le m room ∙ j.long;
+        put = subst (λ (l : List ℕ). Puts l 0 (at + bytes_in r) start (changed text at part)) (sym (ap (λ (k : ℕ). joined (lines_from line 0 k)) (add-one i) ∙ first_next i)) (puts_both j.put (made_at (line i) r text part at at-le m room));
       }
 
     pub ended : n ≤ i → Puts (joined (lines_from line 0 n)) 0 at start text

@@ -4,29 +4,29 @@ use Rattle.text.specs.declared.Reader.{Reader}
 use Rattle.lines.specs.Putting.{Puts}
 use Rattle.pages.specs.declared.Named.{Named}
 use Rattle.pages.specs.declared.Blocks.{Blocks}
-use Rattle.pages.specs.Packing.{gatherFrom, mostNamed, namedFrom, writtenText, writtenSaid}
+use Rattle.pages.specs.Packing.{gather_from, most_named, named_from, written_text, written_said}
 
 -- the most bytes of a fault's line, of a remark, and of the faults that are named
-abbrev pub faultBytes : ℕ
-faultBytes = 85
+abbrev pub fault_bytes : ℕ
+fault_bytes = 85
 
-abbrev pub remarkBytes : ℕ
-remarkBytes = 135
+abbrev pub remark_bytes : ℕ
+remark_bytes = 135
 
-abbrev pub namedBytes : ℕ
-namedBytes = faultBytes * mostNamed
+abbrev pub named_bytes : ℕ
+named_bytes = fault_bytes * most_named
 
 -- a piece taken, its bad lines named from `at` on
 pub record Names (s : Reader) (text : List ℕ) (at : ℕ) (r : Named) (words said words' said' : List ℕ) : Type 0 where
-  pub reader : r.reader ≡ (gatherFrom s text words).reader
-  pub kept : words' ≡ (gatherFrom s text words).words
-  pub named : Puts (namedFrom s.faults (gatherFrom s text words).faults) at r.at said said'
-  pub few : r.at ≤ at + namedBytes
+  pub reader : r.reader ≡ (gather_from s text words).reader
+  pub kept : words' ≡ (gather_from s text words).words
+  pub named : Puts (named_from s.faults (gather_from s text words).faults) at r.at said said'
+  pub few : r.at ≤ at + named_bytes
 
 -- words written, or what is said of the refusal from `at` on
 pub record Packs (words : List ℕ) (at : ℕ) (r : Blocks) (out said out' said' : List ℕ) : Type 0 where
-  pub bytes : r.bytes ≡ length (writtenText words (length out))
-  pub blocks : out' ≡ writtenText words (length out) ++ drop (length (writtenText words (length out))) out
-  pub fits : length (writtenText words (length out)) ≤ length out
-  pub told : Puts (writtenSaid words (length out)) at r.at said said'
-  pub few : r.at ≤ at + remarkBytes
+  pub bytes : r.bytes ≡ length (written_text words (length out))
+  pub blocks : out' ≡ written_text words (length out) ++ drop (length (written_text words (length out))) out
+  pub fits : length (written_text words (length out)) ≤ length out
+  pub told : Puts (written_said words (length out)) at r.at said said'
+  pub few : r.at ≤ at + remark_bytes

@@ -7,59 +7,59 @@ use Rattle.machine.specs.declared.Waiting.TheVariants.{Nothing, Held}
 use Rattle.run.specs.declared.Ending.{Ending}
 use Rattle.run.specs.declared.Ending.TheVariants.{Done, Stopped, Refused}
 use Rattle.run.specs.declared.Ran.{Ran}
-use Rattle.run.specs.Splitting.{wordsPerReport, cycleAt}
-use Rattle.run.specs.Courses.{Course, reportsOf}
-use Rattle.run.specs.Runs.{mostCycles, run_of, zeroMachine, fullBudget, summaryOf, ranOf}
-use Rattle.trace.specs.Layout.{wordsPerRecord, joined}
-use Rattle.trace.specs.Reading.{read_of, readWords}
+use Rattle.run.specs.Splitting.{words_per_report, cycle_at}
+use Rattle.run.specs.Courses.{Course, reports_of}
+use Rattle.run.specs.Runs.{most_cycles, run_of, zero_machine, full_budget, summary_of, ran_of}
+use Rattle.trace.specs.Layout.{words_per_record, joined}
+use Rattle.trace.specs.Reading.{read_of, read_words}
 use Rattle.lines.specs.declared.Program.{Program}
 use Rattle.lines.specs.declared.Program.TheVariants.{RunTrace}
 use Rattle.lines.specs.declared.Remark.TheVariants.{Waits, Refusal}
-use Rattle.lines.specs.Lines.{refusedLine}
+use Rattle.lines.specs.Lines.{refused_line}
 use Rattle.lines.specs.Pages.{page_of}
-use Rattle.lines.specs.Remarks.{remarkLine}
+use Rattle.lines.specs.Remarks.{remark_line}
 
 -- what the reader answers, with room for the words of every trace
 abbrev pub reading_of : List ℕ → Placed ℕ
-reading_of trace = read_of wordsPerRecord trace (wordsPerRecord * mostCycles)
+reading_of trace = read_of words_per_record trace (words_per_record * most_cycles)
 
 -- what stands where an answer accepts, and where it refuses with a number and an index
-abbrev pub ifAccepted : Placed ℕ → List ℕ → (ℕ → ℕ → List ℕ) → List ℕ
-ifAccepted answer text refusal = elim answer.told.value [ some n ↦ text | none ↦ refusal answer.told.number answer.index ]
+abbrev pub if_accepted : Placed ℕ → List ℕ → (ℕ → ℕ → List ℕ) → List ℕ
+if_accepted answer text refusal = elim answer.told.value [ some n ↦ text | none ↦ refusal answer.told.number answer.index ]
 
 -- what is said of a refusal of the reader or the writer: no cycle is at fault
-abbrev pub refusalSaid : Program → ℕ → ℕ → List ℕ
-refusalSaid program number index = remarkLine program (Refusal number index 0 0)
+abbrev pub refusal_said : Program → ℕ → ℕ → List ℕ
+refusal_said program number index = remark_line program (Refusal number index 0 0)
 
 -- the run that a program makes of a trace's words, with room for every report
-abbrev pub courseOf : List ℕ → Course
-courseOf words = run_of zeroMachine words fullBudget (wordsPerReport * mostCycles)
+abbrev pub course_of : List ℕ → Course
+course_of words = run_of zero_machine words full_budget (words_per_report * most_cycles)
 
 -- the answer to that run
-abbrev pub ranFrom : List ℕ → Ran
-ranFrom words = ranOf (summaryOf zeroMachine (courseOf words))
+abbrev pub ran_from : List ℕ → Ran
+ran_from words = ran_of (summary_of zero_machine (course_of words))
 
 -- the lines of the run, one after another
-unfoldable pub runText : List ℕ → List ℕ
-runText words = joined (page_of (ranFrom words) (reportsOf (courseOf words).steps))
+unfoldable pub run_text : List ℕ → List ℕ
+run_text words = joined (page_of (ran_from words) (reports_of (course_of words).steps))
 
 -- what is said of the end: the refusal, with its cycle's word and pins, and nothing more; or that a word waits. With budget for every cycle no
 -- run is stopped
-abbrev pub waitSaid : Waiting → List ℕ
-waitSaid Nothing = []
-waitSaid (Held w) = remarkLine RunTrace (Waits w)
+abbrev pub wait_said : Waiting → List ℕ
+wait_said Nothing = []
+wait_said (Held w) = remark_line RunTrace (Waits w)
 
-abbrev pub endSaid : List ℕ → Ending → Waiting → List ℕ
-endSaid words Done waiting = waitSaid waiting
-endSaid words Stopped waiting = waitSaid waiting
-endSaid words (Refused number i) waiting = remarkLine RunTrace (Refusal number i (cycleAt words i).lines (cycleAt words i).pins)
+abbrev pub end_said : List ℕ → Ending → Waiting → List ℕ
+end_said words Done waiting = wait_said waiting
+end_said words Stopped waiting = wait_said waiting
+end_said words (Refused number i) waiting = remark_line RunTrace (Refusal number i (cycle_at words i).lines (cycle_at words i).pins)
 
-unfoldable pub runSaid : List ℕ → List ℕ
-runSaid words = endSaid words (ranFrom words).ending (ranFrom words).machine.registers.waiting
+unfoldable pub run_said : List ℕ → List ℕ
+run_said words = end_said words (ran_from words).ending (ran_from words).machine.registers.waiting
 
 -- of a trace: its run, or the one line of the refusal
-unfoldable pub pageText : List ℕ → List ℕ
-pageText trace = ifAccepted (reading_of trace) (runText (readWords wordsPerRecord trace)) refusedLine
+unfoldable pub page_text : List ℕ → List ℕ
+page_text trace = if_accepted (reading_of trace) (run_text (read_words words_per_record trace)) refused_line
 
-unfoldable pub pageSaid : List ℕ → List ℕ
-pageSaid trace = ifAccepted (reading_of trace) (runSaid (readWords wordsPerRecord trace)) (refusalSaid RunTrace)
+unfoldable pub page_said : List ℕ → List ℕ
+page_said trace = if_accepted (reading_of trace) (run_said (read_words words_per_record trace)) (refusal_said RunTrace)

@@ -6,9 +6,9 @@ use Rattle.lines.specs.declared.Line.TheVariants.{Made, NoRoom}
 use Rattle.lines.specs.Answers.{Makes}
 use Rattle.pages.specs.declared.Written.{Written}
 
-abbrev pub bytesIn : Line → ℕ
-bytesIn (Made n) = n
-bytesIn NoRoom = 0
+abbrev pub bytes_in : Line → ℕ
+bytes_in (Made n) = n
+bytes_in NoRoom = 0
 
 -- an answer and both slices, before the call and after it: each has its text and then what it had, or all of it where the text is too long
 pub record Writes (text said : List ℕ) (r : Written) (out errors out' errors' : List ℕ) : Type 0 where

@@ -1,4 +1,6 @@
 // What each program for traces writes, as calls on slices: the text for standard output, and what is said on standard error.
+#![tactic(auto)]
+
 mod joining; // joining.rt: how many bytes a line has
 mod running; // running.rt: a trace, and the page of its run
 mod unpacking; // unpacking.rt: a trace, and its words as text
@@ -11,28 +13,28 @@ use text::Reader;
 pub use unpacking::{TEXT_BYTES, unpack_trace};
 
 // How many bytes there are for standard output and for standard error, or that a slice is too short for them.
-#[derive(Drop)]
+#[derive(Clone, Copy)]
 pub struct Written {
     pub output: Line,
     pub said: Line,
 }
 
 // The reader of a text after one more piece, and what is said of the piece.
-#[derive(Drop)]
+#[derive(Clone, Copy)]
 pub struct PieceTaken {
     pub reader: Reader,
     pub said: Line,
 }
 
 // The reader after a piece, and the end of what is said of it.
-#[derive(Drop)]
+#[derive(Clone, Copy)]
 pub(crate) struct Named {
     pub(crate) reader: Reader,
     pub(crate) at: usize,
 }
 
 // How many bytes of a trace were written, and the end of what is said.
-#[derive(Drop)]
+#[derive(Clone, Copy)]
 pub(crate) struct Blocks {
     pub(crate) bytes: usize,
     pub(crate) at: usize,

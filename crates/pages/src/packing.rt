@@ -2,9 +2,9 @@
 ghost use Rattle.std.specs.Prelude.{◌≡◌, [], true, ◌+◌, ◌≤◌, ltb, length, take, get_or};
 ghost use Rattle.choice.specs.Pick.{pick};
 ghost use Rattle.lines.specs.Putting.{Puts};
-ghost use Rattle.lines.specs.Words.{faultLine};
-ghost use Rattle.pages.specs.Packing.{mostNamed, isMark, markSaid, unnamedSaid, TakesPiece, EndsText};
-ghost use Rattle.pages.specs.Naming.{faultBytes, remarkBytes, namedBytes, Names, Packs};
+ghost use Rattle.lines.specs.Words.{fault_line};
+ghost use Rattle.pages.specs.Packing.{most_named, is_mark, mark_said, unnamed_said, TakesPiece, EndsText};
+ghost use Rattle.pages.specs.Naming.{fault_bytes, remark_bytes, named_bytes, Names, Packs};
 
 use crate::{Blocks, Named, PieceTaken, Written, joining, running};
 use lines::{Line, Program, Remark};
@@ -25,8 +25,8 @@ pub const SAID_BYTES: usize = NAMED_BYTES + lines::REMARK_BYTES + lines::REMARK_
 
 // Names a bad line, `faults` lines being bad already.
 fn name_fault(fault: Fault, faults: u64, at: usize, said: &mut [u8]) -> usize
-    requires { (at ≤ length said.old) × (ltb faults mostNamed ≡ true → at + faultBytes ≤ length said.old) }
-    ensures { Puts (pick (ltb faults mostNamed) (faultLine fault) []) at result said.old said.new }
+    requires { (at ≤ length said.old) × (ltb faults most_named ≡ true → at + fault_bytes ≤ length said.old) }
+    ensures { Puts (pick (ltb faults most_named) (fault_line fault) []) at result said.old said.new }
 {
     if MOST_NAMED <= faults {
         return at;
@@ -43,7 +43,7 @@ fn take_piece(
     at: usize,
     said: &mut [u8],
 ) -> Named
-    requires { at + namedBytes ≤ length said.old }
+    requires { at + named_bytes ≤ length said.old }
     ensures { Names reader piece.now at result words.old said.old words.new said.new }
 {
     let mut state = reader;
@@ -77,7 +77,7 @@ fn byte_at(text: &[u8], i: usize) -> u8
 
 // A byte order mark: EF BB BF, or FF FE or FE FF of a text in words of 16 bits.
 fn is_mark(first: u8, second: u8, third: u8) -> bool
-    ensures { result ≡ isMark first second third }
+    ensures { result ≡ is_mark first second third }
 {
     if first == 0xEF {
         return second == 0xBB && third == 0xBF;
@@ -90,8 +90,8 @@ fn is_mark(first: u8, second: u8, third: u8) -> bool
 
 // Says that a text begins with a byte order mark.
 fn say_mark(reader: Reader, piece: &[u8], said: &mut [u8]) -> usize
-    requires { remarkBytes ≤ length said.old }
-    ensures { Puts (markSaid reader piece.now) 0 result said.old said.new × (result ≤ remarkBytes) }
+    requires { remark_bytes ≤ length said.old }
+    ensures { Puts (mark_said reader piece.now) 0 result said.old said.new × (result ≤ remark_bytes) }
 {
     if reader.line != 1 {
         return 0;
@@ -139,8 +139,8 @@ fn found_in(reader: Reader, words: &[u16]) -> usize
 
 // Says how many bad lines were not named.
 fn say_unnamed(faults: u64, at: usize, said: &mut [u8]) -> usize
-    requires { at + remarkBytes ≤ length said.old }
-    ensures { Puts (unnamedSaid faults) at result said.old said.new × (result ≤ at + remarkBytes) }
+    requires { at + remark_bytes ≤ length said.old }
+    ensures { Puts (unnamed_said faults) at result said.old said.new × (result ≤ at + remark_bytes) }
 {
     if faults <= MOST_NAMED {
         return at;
@@ -155,7 +155,7 @@ fn say_unnamed(faults: u64, at: usize, said: &mut [u8]) -> usize
 
 // The trace of the words that were found, or what is said of its refusal.
 fn write_blocks(reader: Reader, words: &[u16], out: &mut [u8], at: usize, said: &mut [u8]) -> Blocks
-    requires { at + remarkBytes ≤ length said.old }
+    requires { at + remark_bytes ≤ length said.old }
     ensures { Packs (take reader.found words.now) at result out.old said.old out.new said.new }
 {
     let found = found_in(reader, words);

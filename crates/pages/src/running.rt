@@ -1,13 +1,13 @@
 // A trace, and the page of its run.
 ghost use Rattle.std.specs.Prelude.{◌≡◌, ◌+◌, ◌*◌, ◌≤◌, length, get_or};
-ghost use Rattle.run.specs.Splitting.{wordsPerCycle};
-ghost use Rattle.run.specs.Runs.{mostCycles};
+ghost use Rattle.run.specs.Splitting.{words_per_cycle};
+ghost use Rattle.run.specs.Runs.{most_cycles};
 ghost use Rattle.trace.specs.Layout.{joined};
 ghost use Rattle.lines.specs.Answers.{Makes};
 ghost use Rattle.lines.specs.Pages.{page_of};
 ghost use Rattle.lines.specs.Putting.{Puts};
 ghost use Rattle.pages.specs.Writing.{Writes};
-ghost use Rattle.pages.specs.Running.{refusalSaid, waitSaid, endSaid, runText, runSaid, pageText, pageSaid};
+ghost use Rattle.pages.specs.Running.{refusal_said, wait_said, end_said, run_text, run_said, page_text, page_said};
 
 use crate::{Written, joining};
 use lines::{Line, Program, Remark};
@@ -25,7 +25,7 @@ const REPORT_WORDS: usize = WORDS_PER_REPORT * MOST_CYCLES;
 
 // The lines of a page one after another.
 fn join_page(ran: Ran, reports: &[u16], page: &mut [u8]) -> usize
-    requires { (ran.accepted ≤ mostCycles) × (length (joined (page_of ran reports.now)) ≤ length page.old) }
+    requires { (ran.accepted ≤ most_cycles) × (length (joined (page_of ran reports.now)) ≤ length page.old) }
     ensures { Puts (joined (page_of ran reports.now)) 0 result page.old page.new }
 {
     let count = ran.accepted + lines::LINES_BESIDE_CYCLES;
@@ -42,7 +42,7 @@ fn join_page(ran: Ran, reports: &[u16], page: &mut [u8]) -> usize
 // A word of cycle `index`, 0 where there is no such cycle.
 fn cycle_word(words: &[u16], index: usize, word: usize) -> u16
     requires { word ≤ 2 }
-    ensures { result ≡ get_or words.now (wordsPerCycle * index + word) 0 }
+    ensures { result ≡ get_or words.now (words_per_cycle * index + word) 0 }
 {
     if words.len() <= index {
         return 0;
@@ -52,7 +52,7 @@ fn cycle_word(words: &[u16], index: usize, word: usize) -> u16
 }
 
 fn say_waiting(waiting: Waiting, said: &mut [u8]) -> Line
-    ensures { Makes (waitSaid waiting) result said.old said.new }
+    ensures { Makes (wait_said waiting) result said.old said.new }
 {
     match waiting {
         Waiting::Nothing => Line::Made(0),
@@ -62,7 +62,7 @@ fn say_waiting(waiting: Waiting, said: &mut [u8]) -> Line
 
 // What is said of the end of a run.
 fn say_end(words: &[u16], ending: Ending, waiting: Waiting, said: &mut [u8]) -> Line
-    ensures { Makes (endSaid words.now ending waiting) result said.old said.new }
+    ensures { Makes (end_said words.now ending waiting) result said.old said.new }
 {
     match ending {
         Ending::Done => say_waiting(waiting, said),
@@ -80,7 +80,7 @@ fn say_end(words: &[u16], ending: Ending, waiting: Waiting, said: &mut [u8]) -> 
 }
 
 fn run_words(words: &[u16], out: &mut [u8], said: &mut [u8]) -> Written
-    ensures { Writes (runText words.now) (runSaid words.now) result out.old said.old out.new said.new }
+    ensures { Writes (run_text words.now) (run_said words.now) result out.old said.old out.new said.new }
 {
     let mut reports = [0u16; REPORT_WORDS];
     let ran = run::run_from_zero(words, &mut reports);
@@ -100,7 +100,7 @@ fn run_words(words: &[u16], out: &mut [u8], said: &mut [u8]) -> Written
 
 // What a program says of a refusal of the reader or the writer.
 pub(crate) fn say_refused(program: Program, number: u8, index: usize, said: &mut [u8]) -> Line
-    ensures { Makes (refusalSaid program number index) result said.old said.new }
+    ensures { Makes (refusal_said program number index) result said.old said.new }
 {
     lines::remark_line(program, Remark::Refusal(number, index, 0, 0), said)
 }
@@ -108,7 +108,7 @@ pub(crate) fn say_refused(program: Program, number: u8, index: usize, said: &mut
 // The page of a trace's run, from all zero: a line for each accepted cycle, the state, the registers that are not 0, and how the run ended.
 // A trace that the reader refuses has that one line.
 pub fn run_trace(trace: &[u8], out: &mut [u8], said: &mut [u8]) -> Written
-    ensures { Writes (pageText trace.now) (pageSaid trace.now) result out.old said.old out.new said.new }
+    ensures { Writes (page_text trace.now) (page_said trace.now) result out.old said.old out.new said.new }
 {
     let mut cycles = [0u16; trace::CYCLE_WORDS];
     match trace::read(trace, &mut cycles) {

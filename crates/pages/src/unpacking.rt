@@ -1,12 +1,12 @@
 // A trace, and its words as text.
 ghost use Rattle.std.specs.Prelude.{◌*◌, ◌≤◌, length};
-ghost use Rattle.run.specs.Runs.{mostCycles};
-ghost use Rattle.trace.specs.Layout.{wordsPerRecord};
+ghost use Rattle.run.specs.Runs.{most_cycles};
+ghost use Rattle.trace.specs.Layout.{words_per_record};
 ghost use Rattle.lines.specs.Answers.{Makes};
 ghost use Rattle.lines.specs.Putting.{Puts};
 ghost use Rattle.lines.specs.Words.{text_of};
 ghost use Rattle.pages.specs.Writing.{Writes};
-ghost use Rattle.pages.specs.Unpacking.{unpackedText, unpackedSaid};
+ghost use Rattle.pages.specs.Unpacking.{unpacked_text, unpacked_said};
 
 use crate::{Written, joining, running};
 use lines::{Line, Program};
@@ -34,7 +34,7 @@ fn join_words(words: &[u16], text: &mut [u8]) -> usize
 }
 
 fn unpack_words(words: &[u16], out: &mut [u8]) -> Line
-    requires { length words.now ≤ wordsPerRecord * mostCycles }
+    requires { length words.now ≤ words_per_record * most_cycles }
     ensures { Makes (text_of words.now) result out.old out.new }
 {
     let mut text = [0u8; TEXT_BYTES];
@@ -44,7 +44,7 @@ fn unpack_words(words: &[u16], out: &mut [u8]) -> Line
 
 // The words of a trace's cycles, one line per cycle. Of a trace that the reader refuses there is nothing but what is said.
 pub fn unpack_trace(trace: &[u8], out: &mut [u8], said: &mut [u8]) -> Written
-    ensures { Writes (unpackedText trace.now) (unpackedSaid trace.now) result out.old said.old out.new said.new }
+    ensures { Writes (unpacked_text trace.now) (unpacked_said trace.now) result out.old said.old out.new said.new }
 {
     let mut cycles = [0u16; trace::CYCLE_WORDS];
     match trace::read(trace, &mut cycles) {

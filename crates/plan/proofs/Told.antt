@@ -14,31 +14,31 @@ use Rattle.choice.proofs.Decisions.{along-by}
 use Rattle.plan.specs.declared.Source.{Source}
 use Rattle.plan.specs.declared.Source.TheVariants.{Latch}
 use Rattle.plan.specs.declared.Destination.{Destination}
-use Rattle.plan.specs.Numbers.{sameTwoOperandKind, sameOneOperandKind, sameBitKind, sameShiftKind, sameSource, sameDestination}
-use Rattle.plan.specs.Tables.{at, shiftSource}
-use Rattle.plan.proofs.Sound.{twoOperandKind-sound, oneOperandKind-sound, bitKind-sound, shiftKind-sound, source_sound, destination-sound}
+use Rattle.plan.specs.Numbers.{same_two_operand_kind, same_one_operand_kind, same_bit_kind, same_shift_kind, same_source, same_destination}
+use Rattle.plan.specs.Tables.{at, shift_source}
+use Rattle.plan.proofs.Sound.{two_operand_kind_sound, one_operand_kind_sound, bit_kind_sound, shift_kind_sound, source_sound, destination_sound}
 
-pub told-two-operand : (n : ℕ) (f : ℕ → TwoOperandKind) (x : ℕ) (r : TwoOperandKind) → Along sameTwoOperandKind n f x r → x < n → r ≡ f x
-told-two-operand = along-by sameTwoOperandKind twoOperandKind-sound
+pub told_two_operand : (n : ℕ) (f : ℕ → TwoOperandKind) (x : ℕ) (r : TwoOperandKind) → Along same_two_operand_kind n f x r → x < n → r ≡ f x
+told_two_operand = along-by same_two_operand_kind two_operand_kind_sound
 
-pub told-one-operand : (n : ℕ) (f : ℕ → OneOperandKind) (x : ℕ) (r : OneOperandKind) → Along sameOneOperandKind n f x r → x < n → r ≡ f x
-told-one-operand = along-by sameOneOperandKind oneOperandKind-sound
+pub told_one_operand : (n : ℕ) (f : ℕ → OneOperandKind) (x : ℕ) (r : OneOperandKind) → Along same_one_operand_kind n f x r → x < n → r ≡ f x
+told_one_operand = along-by same_one_operand_kind one_operand_kind_sound
 
-pub told-bit : (n : ℕ) (f : ℕ → BitKind) (x : ℕ) (r : BitKind) → Along sameBitKind n f x r → x < n → r ≡ f x
-told-bit = along-by sameBitKind bitKind-sound
+pub told_bit : (n : ℕ) (f : ℕ → BitKind) (x : ℕ) (r : BitKind) → Along same_bit_kind n f x r → x < n → r ≡ f x
+told_bit = along-by same_bit_kind bit_kind_sound
 
-pub told-shift : (n : ℕ) (f : ℕ → ShiftKind) (x : ℕ) (r : ShiftKind) → Along sameShiftKind n f x r → x < n → r ≡ f x
-told-shift = along-by sameShiftKind shiftKind-sound
+pub told_shift : (n : ℕ) (f : ℕ → ShiftKind) (x : ℕ) (r : ShiftKind) → Along same_shift_kind n f x r → x < n → r ≡ f x
+told_shift = along-by same_shift_kind shift_kind_sound
 
-pub told-source : (n : ℕ) (f : ℕ → Source) (x : ℕ) (r : Source) → Along sameSource n f x r → x < n → r ≡ f x
-told-source = along-by sameSource source_sound
+pub told_source : (n : ℕ) (f : ℕ → Source) (x : ℕ) (r : Source) → Along same_source n f x r → x < n → r ≡ f x
+told_source = along-by same_source source_sound
 
-pub told-destination : (n : ℕ) (f : ℕ → Destination) (x : ℕ) (r : Destination) → Along sameDestination n f x r → x < n → r ≡ f x
-told-destination = along-by sameDestination destination-sound
+pub told_destination : (n : ℕ) (f : ℕ → Destination) (x : ℕ) (r : Destination) → Along same_destination n f x r → x < n → r ≡ f x
+told_destination = along-by same_destination destination_sound
 
 -- the family's own source stands at 6 alone
-pub shift-latch : (own : Source) (a : ℕ) → (a ≡ 6 → ⊥) → Latch ≡ at (shiftSource own) a
-shift-latch own a n = by-test (eqb 6 a) (eqb 7 a) refl
+pub shift_latch : (own : Source) (a : ℕ) → (a ≡ 6 → ⊥) → Latch ≡ at (shift_source own) a
+shift_latch own a n = by-test (eqb 6 a) (eqb 7 a) refl
   where
     by-test : (six seven : Bool) → eqb 6 a ≡ six → Latch ≡ elim six [ true ↦ own | false ↦ elim seven [ true ↦ Latch | false ↦ Latch ] ]
     by-test true seven q = absurd (n (sym (eqb-true 6 a q)))

@@ -5,31 +5,31 @@ use Rattle.isa.specs.declared.Family.TheVariants.{Tor1, Rotr1, Rotr2, Rotc, Rotm
 use Rattle.isa.specs.Sets.{has, these}
 
 -- what goes to RAM, by fields A and B (document 01, the instruction list)
-abbrev pub toRam : Family → ℕ → ℕ → Bool
-toRam Tor1 a b = has (these (12 ∷ 14 ∷ 15 ∷ [])) a
-toRam Rotr1 a b = has (these (15 ∷ [])) b
-toRam Rotr2 a b = true
-toRam Rotc a b = false
-toRam Rotm a b = has (these (9 ∷ 10 ∷ 12 ∷ [])) b
-toRam Sor a b = has (these (4 ∷ 6 ∷ 7 ∷ 8 ∷ 9 ∷ 10 ∷ 11 ∷ [])) b
-toRam Bor2 a b = true
-toRam Tor2 a b = true
-toRam Shftr a b = true
-toRam Crcf a b = true
-toRam Crcr a b = true
-toRam Prt1 a b = has (these (11 ∷ [])) a
-toRam Prt2 a b = false
-toRam Prt3 a b = true
-toRam Svstr a b = true
-toRam Sonr a b = false
-toRam Tonr a b = false
-toRam Shftnr a b = false
-toRam Bor1 a b = has (these (13 ∷ 14 ∷ [])) b
-toRam Bonr a b = false
-toRam Rotnr a b = false
-toRam Prtnr a b = false
-toRam Svstnr a b = false
-toRam Setst a b = false
-toRam Rstst a b = false
-toRam Test a b = false
-toRam Noop a b = false
+abbrev pub to_ram : Family → ℕ → ℕ → Bool
+to_ram Tor1 a b = has (these (12 ∷ 14 ∷ 15 ∷ [])) a
+to_ram Rotr1 a b = has (these (15 ∷ [])) b
+to_ram Rotr2 a b = true
+to_ram Rotc a b = false
+to_ram Rotm a b = has (these (9 ∷ 10 ∷ 12 ∷ [])) b
+to_ram Sor a b = has (these (4 ∷ 6 ∷ 7 ∷ 8 ∷ 9 ∷ 10 ∷ 11 ∷ [])) b
+to_ram Bor2 a b = true
+to_ram Tor2 a b = true
+to_ram Shftr a b = true
+to_ram Crcf a b = true
+to_ram Crcr a b = true
+to_ram Prt1 a b = has (these (11 ∷ [])) a
+to_ram Prt2 a b = false
+to_ram Prt3 a b = true
+to_ram Svstr a b = true
+to_ram Sonr a b = false
+to_ram Tonr a b = false
+to_ram Shftnr a b = false
+to_ram Bor1 a b = has (these (13 ∷ 14 ∷ [])) b
+to_ram Bonr a b = false
+to_ram Rotnr a b = false
+to_ram Prtnr a b = false
+to_ram Svstnr a b = false
+to_ram Setst a b = false
+to_ram Rstst a b = false
+to_ram Test a b = false
+to_ram Noop a b = false

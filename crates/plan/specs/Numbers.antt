@@ -14,75 +14,75 @@ use Rattle.plan.specs.declared.Source.TheVariants.{Zero, Ram, Acc, Latch, Immedi
 use Rattle.plan.specs.declared.Destination.{Destination}
 use Rattle.plan.specs.declared.Destination.TheVariants.{ToY, ToAcc, ToRam, ToStatus, ToAccAndStatus}
 
-abbrev pub twoOperandKindNumber : TwoOperandKind → ℕ
-twoOperandKindNumber SMinusR = 0
-twoOperandKindNumber SMinusRWithCarry = 1
-twoOperandKindNumber RMinusS = 2
-twoOperandKindNumber RMinusSWithCarry = 3
-twoOperandKindNumber RPlusS = 4
-twoOperandKindNumber RPlusSWithCarry = 5
-twoOperandKindNumber And = 6
-twoOperandKindNumber Nand = 7
-twoOperandKindNumber Xor = 8
-twoOperandKindNumber Nor = 9
-twoOperandKindNumber Or = 10
-twoOperandKindNumber Xnor = 11
+abbrev pub two_operand_kind_number : TwoOperandKind → ℕ
+two_operand_kind_number SMinusR = 0
+two_operand_kind_number SMinusRWithCarry = 1
+two_operand_kind_number RMinusS = 2
+two_operand_kind_number RMinusSWithCarry = 3
+two_operand_kind_number RPlusS = 4
+two_operand_kind_number RPlusSWithCarry = 5
+two_operand_kind_number And = 6
+two_operand_kind_number Nand = 7
+two_operand_kind_number Xor = 8
+two_operand_kind_number Nor = 9
+two_operand_kind_number Or = 10
+two_operand_kind_number Xnor = 11
 
-abbrev pub sameTwoOperandKind : TwoOperandKind → TwoOperandKind → Bool
-sameTwoOperandKind x y = eqb (twoOperandKindNumber x) (twoOperandKindNumber y)
+abbrev pub same_two_operand_kind : TwoOperandKind → TwoOperandKind → Bool
+same_two_operand_kind x y = eqb (two_operand_kind_number x) (two_operand_kind_number y)
 
-abbrev pub oneOperandKindNumber : OneOperandKind → ℕ
-oneOperandKindNumber Move = 0
-oneOperandKindNumber Complement = 1
-oneOperandKindNumber Increment = 2
-oneOperandKindNumber Negate = 3
+abbrev pub one_operand_kind_number : OneOperandKind → ℕ
+one_operand_kind_number Move = 0
+one_operand_kind_number Complement = 1
+one_operand_kind_number Increment = 2
+one_operand_kind_number Negate = 3
 
-abbrev pub sameOneOperandKind : OneOperandKind → OneOperandKind → Bool
-sameOneOperandKind x y = eqb (oneOperandKindNumber x) (oneOperandKindNumber y)
+abbrev pub same_one_operand_kind : OneOperandKind → OneOperandKind → Bool
+same_one_operand_kind x y = eqb (one_operand_kind_number x) (one_operand_kind_number y)
 
-abbrev pub bitKindNumber : BitKind → ℕ
-bitKindNumber SetBit = 0
-bitKindNumber ResetBit = 1
-bitKindNumber TestBit = 2
-bitKindNumber LoadBit = 3
-bitKindNumber LoadBitComplement = 4
-bitKindNumber AddBit = 5
-bitKindNumber SubtractBit = 6
+abbrev pub bit_kind_number : BitKind → ℕ
+bit_kind_number SetBit = 0
+bit_kind_number ResetBit = 1
+bit_kind_number TestBit = 2
+bit_kind_number LoadBit = 3
+bit_kind_number LoadBitComplement = 4
+bit_kind_number AddBit = 5
+bit_kind_number SubtractBit = 6
 
-abbrev pub sameBitKind : BitKind → BitKind → Bool
-sameBitKind x y = eqb (bitKindNumber x) (bitKindNumber y)
+abbrev pub same_bit_kind : BitKind → BitKind → Bool
+same_bit_kind x y = eqb (bit_kind_number x) (bit_kind_number y)
 
-abbrev pub shiftKindNumber : ShiftKind → ℕ
-shiftKindNumber UpWithZero = 0
-shiftKindNumber UpWithOne = 1
-shiftKindNumber UpWithLink = 2
-shiftKindNumber DownWithZero = 3
-shiftKindNumber DownWithOne = 4
-shiftKindNumber DownWithLink = 5
-shiftKindNumber DownWithC = 6
-shiftKindNumber DownWithNXorOvr = 7
+abbrev pub shift_kind_number : ShiftKind → ℕ
+shift_kind_number UpWithZero = 0
+shift_kind_number UpWithOne = 1
+shift_kind_number UpWithLink = 2
+shift_kind_number DownWithZero = 3
+shift_kind_number DownWithOne = 4
+shift_kind_number DownWithLink = 5
+shift_kind_number DownWithC = 6
+shift_kind_number DownWithNXorOvr = 7
 
-abbrev pub sameShiftKind : ShiftKind → ShiftKind → Bool
-sameShiftKind x y = eqb (shiftKindNumber x) (shiftKindNumber y)
+abbrev pub same_shift_kind : ShiftKind → ShiftKind → Bool
+same_shift_kind x y = eqb (shift_kind_number x) (shift_kind_number y)
 
-abbrev pub sourceNumber : Source → ℕ
-sourceNumber Zero = 0
-sourceNumber Ram = 1
-sourceNumber Acc = 2
-sourceNumber Latch = 3
-sourceNumber Immediate = 4
-sourceNumber LatchZeroExtended = 5
-sourceNumber LatchSignExtended = 6
+abbrev pub source_number : Source → ℕ
+source_number Zero = 0
+source_number Ram = 1
+source_number Acc = 2
+source_number Latch = 3
+source_number Immediate = 4
+source_number LatchZeroExtended = 5
+source_number LatchSignExtended = 6
 
-abbrev pub sameSource : Source → Source → Bool
-sameSource x y = eqb (sourceNumber x) (sourceNumber y)
+abbrev pub same_source : Source → Source → Bool
+same_source x y = eqb (source_number x) (source_number y)
 
-abbrev pub destinationNumber : Destination → ℕ
-destinationNumber ToY = 0
-destinationNumber ToAcc = 1
-destinationNumber ToRam = 2
-destinationNumber ToStatus = 3
-destinationNumber ToAccAndStatus = 4
+abbrev pub destination_number : Destination → ℕ
+destination_number ToY = 0
+destination_number ToAcc = 1
+destination_number ToRam = 2
+destination_number ToStatus = 3
+destination_number ToAccAndStatus = 4
 
-abbrev pub sameDestination : Destination → Destination → Bool
-sameDestination x y = eqb (destinationNumber x) (destinationNumber y)
+abbrev pub same_destination : Destination → Destination → Bool
+same_destination x y = eqb (destination_number x) (destination_number y)

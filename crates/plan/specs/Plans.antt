@@ -16,7 +16,7 @@ use Rattle.plan.specs.declared.Task.TheVariants.{NoOperation, TwoOperand, OneOpe
 use Rattle.plan.specs.declared.Operands.{Operands}
 use Rattle.plan.specs.declared.Work.{Work}
 use Rattle.plan.specs.declared.Plan.{Plan}
-use Rattle.plan.specs.Tables.{Looking, asPrinted, twoOperands, oneOperands, shifts, bor2Bits, bor1Bits, bonrBits, statusBits, ramPairR, ramPairS, pairR, pairS, sources, prt1Source, maskSource, rotateU, rotateR, rotateMask, shiftSource, bonrSource, rotnrSource, ramPairTo, rotr1To, sorTo, prt1To, prt2To, noRamTo, back, bitTo, rotnrTo}
+use Rattle.plan.specs.Tables.{Looking, as_printed, two_operands, one_operands, shifts, bor2_bits, bor1_bits, bonr_bits, status_bits, ram_pair_r, ram_pair_s, pair_r, pair_s, sources, prt1_source, mask_source, rotate_u, rotate_r, rotate_mask, shift_source, bonr_source, rotnr_source, ram_pair_to, rotr1_to, sor_to, prt1_to, prt2_to, no_ram_to, back, bit_to, rotnr_to}
 
 -- one operand, or none where it is Zero; two, R and S or a register and ACC; a source and its mask; U, R and the mask
 abbrev pub one : Source → Operands
@@ -32,8 +32,8 @@ abbrev pub three : Source → Source → Source → Operands
 three u r m = record { first = u; second = r; mask = m }
 
 -- Y is known at the width, and the T inputs choose CT
-abbrev pub atWidth : Task → Operands → Destination → Work
-atWidth t o d = record { task = t; operands = o; destination = d; shown = AtWidth; chooser = Pins }
+abbrev pub at_width : Task → Operands → Destination → Work
+at_width t o d = record { task = t; operands = o; destination = d; shown = AtWidth; chooser = Pins }
 
 -- all of Y is known (document 01, the report: save, set and reset status and prioritize)
 abbrev pub whole : Task → Operands → Destination → Work
@@ -44,8 +44,8 @@ abbrev pub idle : Task → Chooser → Work
 idle t c = record { task = t; operands = one Zero; destination = ToY; shown = Nothing; chooser = c }
 
 -- a bit operation on a source
-abbrev pub bitWork : BitKind → Source → Work
-bitWork k s = atWidth (Bit k) (one s) (bitTo k s)
+abbrev pub bit_work : BitKind → Source → Work
+bit_work k s = at_width (Bit k) (one s) (bit_to k s)
 
 -- the work of each family by its fields, whatever the way in which tables are looked up
 module _ (l : Looking) where
@@ -53,40 +53,40 @@ module _ (l : Looking) where
 
   abbrev pub workBy : Family → ℕ → ℕ → ℕ → Work
   -- Q0
-  workBy Tor1 a b c = atWidth (TwoOperand (look twoOperands b)) (two (look ramPairR a) (look ramPairS a)) (look ramPairTo a)
-  workBy Rotr1 a b c = atWidth Rotate (one Ram) (look rotr1To b)
+  workBy Tor1 a b c = at_width (TwoOperand (look two_operands b)) (two (look ram_pair_r a) (look ram_pair_s a)) (look ram_pair_to a)
+  workBy Rotr1 a b c = at_width Rotate (one Ram) (look rotr1_to b)
   -- Q1
-  workBy Rotr2 a b c = atWidth Rotate (one (look rotateU b)) ToRam
-  workBy Rotc a b c = atWidth Compare (three (look rotateU b) (look rotateR b) (look rotateMask b)) ToY
-  workBy Rotm a b c = atWidth Merge (three (look rotateU b) (look rotateR b) (look rotateMask b)) (back (look rotateR b))
+  workBy Rotr2 a b c = at_width Rotate (one (look rotate_u b)) ToRam
+  workBy Rotc a b c = at_width Compare (three (look rotate_u b) (look rotate_r b) (look rotate_mask b)) ToY
+  workBy Rotm a b c = at_width Merge (three (look rotate_u b) (look rotate_r b) (look rotate_mask b)) (back (look rotate_r b))
   -- Q2
-  workBy Sor a b c = atWidth (OneOperand (look oneOperands a)) (one (look sources b)) (look sorTo b)
-  workBy Bor2 a b c = bitWork (look bor2Bits b) Ram
-  workBy Tor2 a b c = atWidth (TwoOperand (look twoOperands b)) (two (look pairR a) (look pairS a)) ToRam
-  workBy Shftr a b c = atWidth (Shift (look shifts b)) (one (look (shiftSource Ram) a)) ToRam
-  workBy Crcf a b c = atWidth CrcForward (two Ram Acc) ToRam
-  workBy Crcr a b c = atWidth CrcReverse (two Ram Acc) ToRam
-  workBy Prt1 a b c = whole Prioritize (masked (look prt1Source b) Ram) (look prt1To a)
-  workBy Prt2 a b c = whole Prioritize (masked Ram (look maskSource a)) (look prt2To b)
-  workBy Prt3 a b c = whole Prioritize (masked (look sources b) (look maskSource a)) ToRam
+  workBy Sor a b c = at_width (OneOperand (look one_operands a)) (one (look sources b)) (look sor_to b)
+  workBy Bor2 a b c = bit_work (look bor2_bits b) Ram
+  workBy Tor2 a b c = at_width (TwoOperand (look two_operands b)) (two (look pair_r a) (look pair_s a)) ToRam
+  workBy Shftr a b c = at_width (Shift (look shifts b)) (one (look (shift_source Ram) a)) ToRam
+  workBy Crcf a b c = at_width CrcForward (two Ram Acc) ToRam
+  workBy Crcr a b c = at_width CrcReverse (two Ram Acc) ToRam
+  workBy Prt1 a b c = whole Prioritize (masked (look prt1_source b) Ram) (look prt1_to a)
+  workBy Prt2 a b c = whole Prioritize (masked Ram (look mask_source a)) (look prt2_to b)
+  workBy Prt3 a b c = whole Prioritize (masked (look sources b) (look mask_source a)) ToRam
   workBy Svstr a b c = whole SaveStatus (one Zero) ToRam
   -- Q3
-  workBy Sonr a b c = atWidth (OneOperand (look oneOperands a)) (one (look sources b)) (look noRamTo c)
-  workBy Tonr a b c = atWidth (TwoOperand (look twoOperands b)) (two (look pairR a) (look pairS a)) (look noRamTo c)
-  workBy Shftnr a b c = atWidth (Shift (look shifts b)) (one (look (shiftSource Acc) a)) (look noRamTo c)
-  workBy Bor1 a b c = bitWork (look bor1Bits b) Ram
-  workBy Bonr a b c = bitWork (look bonrBits c) (look bonrSource c)
-  workBy Rotnr a b c = atWidth Rotate (one (look rotnrSource c)) (look rotnrTo c)
-  workBy Prtnr a b c = whole Prioritize (masked (look sources b) (look maskSource a)) (look noRamTo c)
-  workBy Svstnr a b c = whole SaveStatus (one Zero) (look noRamTo c)
-  workBy Setst a b c = whole (SetStatus (look statusBits c)) (one Zero) ToY
-  workBy Rstst a b c = whole (ResetStatus (look statusBits c)) (one Zero) ToY
+  workBy Sonr a b c = at_width (OneOperand (look one_operands a)) (one (look sources b)) (look no_ram_to c)
+  workBy Tonr a b c = at_width (TwoOperand (look two_operands b)) (two (look pair_r a) (look pair_s a)) (look no_ram_to c)
+  workBy Shftnr a b c = at_width (Shift (look shifts b)) (one (look (shift_source Acc) a)) (look no_ram_to c)
+  workBy Bor1 a b c = bit_work (look bor1_bits b) Ram
+  workBy Bonr a b c = bit_work (look bonr_bits c) (look bonr_source c)
+  workBy Rotnr a b c = at_width Rotate (one (look rotnr_source c)) (look rotnr_to c)
+  workBy Prtnr a b c = whole Prioritize (masked (look sources b) (look mask_source a)) (look no_ram_to c)
+  workBy Svstnr a b c = whole SaveStatus (one Zero) (look no_ram_to c)
+  workBy Setst a b c = whole (SetStatus (look status_bits c)) (one Zero) ToY
+  workBy Rstst a b c = whole (ResetStatus (look status_bits c)) (one Zero) ToY
   workBy Test a b c = idle TestStatus (Instruction (c / 2))
   workBy Noop a b c = idle NoOperation Pins
 
 -- the work that is meant: tables are looked up as they are printed
-unfoldable pub workOf : Family → ℕ → ℕ → ℕ → Work
-workOf = workBy asPrinted
+unfoldable pub work_of : Family → ℕ → ℕ → ℕ → Work
+work_of = workBy as_printed
 
 -- the plan of a named instruction: A is n where there is one, and C the register where there is one. Fields count modulo their range,
 -- in which every instruction of the list has them
@@ -95,5 +95,5 @@ plan_of i = record {
   mode = i.mode;
   n = i.a % 16;
   register = i.c % 32;
-  work = workOf i.family (i.a % 16) (i.b % 16) (i.c % 32);
+  work = work_of i.family (i.a % 16) (i.b % 16) (i.c % 32);
 }

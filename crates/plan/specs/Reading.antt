@@ -11,84 +11,84 @@ use Rattle.plan.specs.declared.Task.{Task}
 use Rattle.plan.specs.declared.Task.TheVariants.{NoOperation, TwoOperand, OneOperand, Bit, Shift, Rotate, Merge, Compare, Prioritize, CrcForward, CrcReverse, SaveStatus, SetStatus, ResetStatus, TestStatus}
 use Rattle.plan.specs.declared.Work.{Work}
 
-abbrev pub isImmediate : Source → Bool
-isImmediate Zero = false
-isImmediate Ram = false
-isImmediate Acc = false
-isImmediate Latch = false
-isImmediate Immediate = true
-isImmediate LatchZeroExtended = false
-isImmediate LatchSignExtended = false
+abbrev pub is_immediate : Source → Bool
+is_immediate Zero = false
+is_immediate Ram = false
+is_immediate Acc = false
+is_immediate Latch = false
+is_immediate Immediate = true
+is_immediate LatchZeroExtended = false
+is_immediate LatchSignExtended = false
 
 -- some place of the operands is I
-abbrev pub namesI : Work → Bool
-namesI w =
-    pick (isImmediate w.operands.first) true (pick (isImmediate w.operands.second) true (isImmediate w.operands.mask))
+abbrev pub names_i : Work → Bool
+names_i w =
+    pick (is_immediate w.operands.first) true (pick (is_immediate w.operands.second) true (is_immediate w.operands.mask))
 
-abbrev pub isRam : Destination → Bool
-isRam ToY = false
-isRam ToAcc = false
-isRam ToRam = true
-isRam ToStatus = false
-isRam ToAccAndStatus = false
+abbrev pub is_ram : Destination → Bool
+is_ram ToY = false
+is_ram ToAcc = false
+is_ram ToRam = true
+is_ram ToStatus = false
+is_ram ToAccAndStatus = false
 
-abbrev pub writesRam : Work → Bool
-writesRam w = isRam w.destination
+abbrev pub writes_ram : Work → Bool
+writes_ram w = is_ram w.destination
 
 -- the bit operations (document 01, the instruction list: BOR1, BOR2 and BONR)
-abbrev pub isBit : Task → Bool
-isBit NoOperation = false
-isBit (TwoOperand k) = false
-isBit (OneOperand k) = false
-isBit (Bit k) = true
-isBit (Shift k) = false
-isBit Rotate = false
-isBit Merge = false
-isBit Compare = false
-isBit Prioritize = false
-isBit CrcForward = false
-isBit CrcReverse = false
-isBit SaveStatus = false
-isBit (SetStatus bits) = false
-isBit (ResetStatus bits) = false
-isBit TestStatus = false
+abbrev pub is_bit : Task → Bool
+is_bit NoOperation = false
+is_bit (TwoOperand k) = false
+is_bit (OneOperand k) = false
+is_bit (Bit k) = true
+is_bit (Shift k) = false
+is_bit Rotate = false
+is_bit Merge = false
+is_bit Compare = false
+is_bit Prioritize = false
+is_bit CrcForward = false
+is_bit CrcReverse = false
+is_bit SaveStatus = false
+is_bit (SetStatus bits) = false
+is_bit (ResetStatus bits) = false
+is_bit TestStatus = false
 
-abbrev pub isPrioritize : Task → Bool
-isPrioritize NoOperation = false
-isPrioritize (TwoOperand k) = false
-isPrioritize (OneOperand k) = false
-isPrioritize (Bit k) = false
-isPrioritize (Shift k) = false
-isPrioritize Rotate = false
-isPrioritize Merge = false
-isPrioritize Compare = false
-isPrioritize Prioritize = true
-isPrioritize CrcForward = false
-isPrioritize CrcReverse = false
-isPrioritize SaveStatus = false
-isPrioritize (SetStatus bits) = false
-isPrioritize (ResetStatus bits) = false
-isPrioritize TestStatus = false
+abbrev pub is_prioritize : Task → Bool
+is_prioritize NoOperation = false
+is_prioritize (TwoOperand k) = false
+is_prioritize (OneOperand k) = false
+is_prioritize (Bit k) = false
+is_prioritize (Shift k) = false
+is_prioritize Rotate = false
+is_prioritize Merge = false
+is_prioritize Compare = false
+is_prioritize Prioritize = true
+is_prioritize CrcForward = false
+is_prioritize CrcReverse = false
+is_prioritize SaveStatus = false
+is_prioritize (SetStatus bits) = false
+is_prioritize (ResetStatus bits) = false
+is_prioritize TestStatus = false
 
-abbrev pub isAcc : Source → Bool
-isAcc Zero = false
-isAcc Ram = false
-isAcc Acc = true
-isAcc Latch = false
-isAcc Immediate = false
-isAcc LatchZeroExtended = false
-isAcc LatchSignExtended = false
+abbrev pub is_acc : Source → Bool
+is_acc Zero = false
+is_acc Ram = false
+is_acc Acc = true
+is_acc Latch = false
+is_acc Immediate = false
+is_acc LatchZeroExtended = false
+is_acc LatchSignExtended = false
 
 -- ACC is a prioritize's source and its mask at once
-abbrev pub accUnderAcc : Work → Bool
-accUnderAcc w = pick (isPrioritize w.task) (pick (isAcc w.operands.first) (isAcc w.operands.mask) false) false
+abbrev pub acc_under_acc : Work → Bool
+acc_under_acc w = pick (is_prioritize w.task) (pick (is_acc w.operands.first) (is_acc w.operands.mask) false) false
 
 -- the sources that a merge's R and a bit operation's source are taken from
-abbrev pub isRamAccOrLatch : Source → Bool
-isRamAccOrLatch Zero = false
-isRamAccOrLatch Ram = true
-isRamAccOrLatch Acc = true
-isRamAccOrLatch Latch = true
-isRamAccOrLatch Immediate = false
-isRamAccOrLatch LatchZeroExtended = false
-isRamAccOrLatch LatchSignExtended = false
+abbrev pub is_ram_acc_or_latch : Source → Bool
+is_ram_acc_or_latch Zero = false
+is_ram_acc_or_latch Ram = true
+is_ram_acc_or_latch Acc = true
+is_ram_acc_or_latch Latch = true
+is_ram_acc_or_latch Immediate = false
+is_ram_acc_or_latch LatchZeroExtended = false
+is_ram_acc_or_latch LatchSignExtended = false

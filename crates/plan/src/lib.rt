@@ -1,17 +1,19 @@
 // What a named instruction asks for: the operation, where its operands come from, where its result goes, what the bus shows, and
 // who chooses CT. It is document 01's instruction list, read for its meaning.
+#![tactic(auto)]
+
 use alu::{BitKind, Mode, OneOperandKind, ShiftKind, TwoOperandKind};
 use isa::{Family, Named};
 
 mod tables; // tables.rt: what single fields stand for
 
 ghost use Rattle.std.specs.Prelude.{◌≡◌, ◌<◌};
-ghost use Rattle.plan.specs.Tables.{at, twoOperands, oneOperands, shifts, sources, pairR, pairS, ramPairR, ramPairS, rotateU, rotateR, rotateMask, back};
-ghost use Rattle.plan.specs.Plans.{one as specs·one, two as specs·two, masked as specs·masked, three as specs·three, atWidth, whole as specs·whole, idle as specs·idle, bitWork, workOf, plan_of};
-ghost use Rattle.plan.specs.Reading.{isImmediate, namesI};
+ghost use Rattle.plan.specs.Tables.{at, two_operands, one_operands, shifts, sources, pair_r, pair_s, ram_pair_r, ram_pair_s, rotate_u, rotate_r, rotate_mask, back};
+ghost use Rattle.plan.specs.Plans.{one, two, masked, three, at_width, whole, idle, bit_work, work_of, plan_of};
+ghost use Rattle.plan.specs.Reading.{is_immediate, names_i};
 
 // What is done. Set and reset status name the status bits that they change.
-#[derive(Drop)]
+#[derive(Clone, Copy)]
 pub enum Task {
     NoOperation,
     TwoOperand(TwoOperandKind),
@@ -31,7 +33,7 @@ pub enum Task {
 }
 
 // Where an operand comes from. LatchZeroExtended is document 01's D(0E), LatchSignExtended its D(SE).
-#[derive(Drop)]
+#[derive(Clone, Copy)]
 pub enum Source {
     Zero,
     Ram,
@@ -43,7 +45,7 @@ pub enum Source {
 }
 
 // Where the result goes besides the Y bus.
-#[derive(Drop)]
+#[derive(Clone, Copy)]
 pub enum Destination {
     ToY,
     ToAcc,
@@ -53,7 +55,7 @@ pub enum Destination {
 }
 
 // How much of Y the bus shows.
-#[derive(Drop)]
+#[derive(Clone, Copy)]
 pub enum Shown {
     AtWidth,
     Whole,
@@ -61,14 +63,14 @@ pub enum Shown {
 }
 
 // Who chooses CT with IEN low: the T inputs, or the instruction by a code.
-#[derive(Drop)]
+#[derive(Clone, Copy)]
 pub enum Chooser {
     Pins,
     Instruction(u8),
 }
 
 // A source; R and S; a register and ACC; U, R and the mask; or a source and its mask. A place that a task does not have is Zero.
-#[derive(Drop)]
+#[derive(Clone, Copy)]
 pub struct Operands {
     pub first: Source,
     pub second: Source,
@@ -76,7 +78,7 @@ pub struct Operands {
 }
 
 // What is to be done with which operands, where the result goes, what the bus shows and who chooses CT.
-#[derive(Drop)]
+#[derive(Clone, Copy)]
 pub struct Work {
     pub task: Task,
     pub operands: Operands,
@@ -86,7 +88,7 @@ pub struct Work {
 }
 
 // What a named instruction asks for: its work at a mode, with n and the RAM address, which not every task uses.
-#[derive(Drop)]
+#[derive(Clone, Copy)]
 pub struct Plan {
     pub mode: Mode,
     pub n: u8,
@@ -95,25 +97,25 @@ pub struct Plan {
 }
 
 fn one(source: Source) -> Operands
-    ensures { result ≡ specs·one source }
+    ensures { result ≡ one source }
 {
     two(source, Source::Zero)
 }
 
 fn two(first: Source, second: Source) -> Operands
-    ensures { result ≡ specs·two first second }
+    ensures { result ≡ two first second }
 {
     three(first, second, Source::Zero)
 }
 
 fn masked(source: Source, mask: Source) -> Operands
-    ensures { result ≡ specs·masked source mask }
+    ensures { result ≡ masked source mask }
 {
     three(source, Source::Zero, mask)
 }
 
 fn three(first: Source, second: Source, mask: Source) -> Operands
-    ensures { result ≡ specs·three first second mask }
+    ensures { result ≡ three first second mask }
 {
     Operands {
         first: first,
@@ -124,7 +126,7 @@ fn three(first: Source, second: Source, mask: Source) -> Operands
 
 // Work whose Y is known at the width.
 fn at_width(task: Task, operands: Operands, destination: Destination) -> Work
-    ensures { result ≡ atWidth task operands destination }
+    ensures { result ≡ at_width task operands destination }
 {
     Work {
         task: task,
@@ -137,7 +139,7 @@ fn at_width(task: Task, operands: Operands, destination: Destination) -> Work
 
 // Work whose Y is known whole.
 fn whole(task: Task, operands: Operands, destination: Destination) -> Work
-    ensures { result ≡ specs·whole task operands destination }
+    ensures { result ≡ whole task operands destination }
 {
     Work {
         task: task,
@@ -149,13 +151,13 @@ fn whole(task: Task, operands: Operands, destination: Destination) -> Work
 }
 
 fn rotate(source: Source, destination: Destination) -> Work
-    ensures { result ≡ atWidth Task.Rotate (specs·one source) destination }
+    ensures { result ≡ at_width Task.Rotate (one source) destination }
 {
     at_width(Task::Rotate, one(source), destination)
 }
 
 fn check_step(task: Task) -> Work
-    ensures { result ≡ atWidth task (specs·two Source.Ram Source.Acc) Destination.ToRam }
+    ensures { result ≡ at_width task (two Source.Ram Source.Acc) Destination.ToRam }
 {
     at_width(task, two(Source::Ram, Source::Acc), Destination::ToRam)
 }
@@ -163,7 +165,7 @@ fn check_step(task: Task) -> Work
 // A merge goes where its R is.
 fn merge(b: u8) -> Work
     requires { b < 16 }
-    ensures { result ≡ atWidth Task.Merge (specs·three (at rotateU b) (at rotateR b) (at rotateMask b)) (back (at rotateR b)) }
+    ensures { result ≡ at_width Task.Merge (three (at rotate_u b) (at rotate_r b) (at rotate_mask b)) (back (at rotate_r b)) }
 {
     let operands = rotate_operands(b);
     let r = operands.second;
@@ -172,7 +174,7 @@ fn merge(b: u8) -> Work
 
 // Work that shows nothing.
 fn idle(task: Task, chooser: Chooser) -> Work
-    ensures { result ≡ specs·idle task chooser }
+    ensures { result ≡ idle task chooser }
 {
     Work {
         task: task,
@@ -185,7 +187,7 @@ fn idle(task: Task, chooser: Chooser) -> Work
 
 fn two_operand(b: u8, operands: Operands, destination: Destination) -> Work
     requires { b < 16 }
-    ensures { result ≡ atWidth (Task.TwoOperand (at twoOperands b)) operands destination }
+    ensures { result ≡ at_width (Task.TwoOperand (at two_operands b)) operands destination }
 {
     at_width(
         Task::TwoOperand(tables::two_operand_kind(b)),
@@ -196,7 +198,7 @@ fn two_operand(b: u8, operands: Operands, destination: Destination) -> Work
 
 fn one_operand(a: u8, b: u8, destination: Destination) -> Work
     requires { (a < 16) × (b < 16) }
-    ensures { result ≡ atWidth (Task.OneOperand (at oneOperands a)) (specs·one (at sources b)) destination }
+    ensures { result ≡ at_width (Task.OneOperand (at one_operands a)) (one (at sources b)) destination }
 {
     at_width(
         Task::OneOperand(tables::one_operand_kind(a)),
@@ -207,34 +209,34 @@ fn one_operand(a: u8, b: u8, destination: Destination) -> Work
 
 fn shift(b: u8, source: Source, destination: Destination) -> Work
     requires { b < 16 }
-    ensures { result ≡ atWidth (Task.Shift (at shifts b)) (specs·one source) destination }
+    ensures { result ≡ at_width (Task.Shift (at shifts b)) (one source) destination }
 {
     at_width(Task::Shift(tables::shift_kind(b)), one(source), destination)
 }
 
 fn bit(kind: BitKind, source: Source) -> Work
-    ensures { result ≡ bitWork kind source }
+    ensures { result ≡ bit_work kind source }
 {
     at_width(Task::Bit(kind), one(source), tables::bit_to(kind, source))
 }
 
 fn pair(a: u8) -> Operands
     requires { a < 16 }
-    ensures { result ≡ specs·two (at pairR a) (at pairS a) }
+    ensures { result ≡ two (at pair_r a) (at pair_s a) }
 {
     two(tables::pair_r(a), tables::pair_s(a))
 }
 
 fn ram_pair(a: u8) -> Operands
     requires { a < 16 }
-    ensures { result ≡ specs·two (at ramPairR a) (at ramPairS a) }
+    ensures { result ≡ two (at ram_pair_r a) (at ram_pair_s a) }
 {
     two(tables::ram_pair_r(a), tables::ram_pair_s(a))
 }
 
 fn rotate_operands(b: u8) -> Operands
     requires { b < 16 }
-    ensures { result ≡ specs·three (at rotateU b) (at rotateR b) (at rotateMask b) }
+    ensures { result ≡ three (at rotate_u b) (at rotate_r b) (at rotate_mask b) }
 {
     three(
         tables::rotate_u(b),
@@ -244,13 +246,13 @@ fn rotate_operands(b: u8) -> Operands
 }
 
 fn prioritize(source: Source, mask: Source, destination: Destination) -> Work
-    ensures { result ≡ specs·whole Task.Prioritize (specs·masked source mask) destination }
+    ensures { result ≡ whole Task.Prioritize (masked source mask) destination }
 {
     whole(Task::Prioritize, masked(source, mask), destination)
 }
 
 fn status_work(task: Task, destination: Destination) -> Work
-    ensures { result ≡ specs·whole task (specs·one Source.Zero) destination }
+    ensures { result ≡ whole task (one Source.Zero) destination }
 {
     whole(task, one(Source::Zero), destination)
 }
@@ -258,7 +260,7 @@ fn status_work(task: Task, destination: Destination) -> Work
 // The work of a family, by fields in their range.
 fn work_of(family: Family, a: u8, b: u8, c: u8) -> Work
     requires { (a < 16) × (b < 16) × (c < 32) }
-    ensures { result ≡ workOf family a b c }
+    ensures { result ≡ work_of family a b c }
 {
     match family {
         Family::Tor1 => two_operand(b, ram_pair(a), tables::ram_pair_to(a)),
@@ -321,7 +323,7 @@ pub fn plan_for(named: Named) -> Plan
 }
 
 fn is_immediate(source: Source) -> bool
-    ensures { result ≡ isImmediate source }
+    ensures { result ≡ is_immediate source }
 {
     match source {
         Source::Zero => false,
@@ -336,7 +338,7 @@ fn is_immediate(source: Source) -> bool
 
 // Whether some operand is I.
 pub fn names_immediate(work: Work) -> bool
-    ensures { result ≡ namesI work }
+    ensures { result ≡ names_i work }
 {
     let operands = work.operands;
     let first = operands.first;

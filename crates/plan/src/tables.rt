@@ -2,8 +2,8 @@
 // is what the table has at x, for x below n.
 ghost use Rattle.std.specs.Prelude.{◌<◌, ◌≤◌, ◌≡◌, eqb};
 ghost use Rattle.choice.specs.Along.{Along};
-ghost use Rattle.plan.specs.Numbers.{sameTwoOperandKind, sameOneOperandKind, sameBitKind, sameShiftKind, sameSource, sameDestination};
-ghost use Rattle.plan.specs.Tables.{at, twoOperands, oneOperands, shifts, bor2Bits, bor1Bits, bonrBits, statusBits, ramPairR, ramPairS, pairR, pairS, sources, prt1Source, maskSource, rotateU, rotateR, rotateMask, shiftSource, bonrSource, rotnrSource, ramPairTo, rotr1To, sorTo, prt1To, prt2To, noRamTo, back, bitTo, rotnrTo};
+ghost use Rattle.plan.specs.Numbers.{same_two_operand_kind, same_one_operand_kind, same_bit_kind, same_shift_kind, same_source, same_destination};
+ghost use Rattle.plan.specs.Tables.{at, two_operands, one_operands, shifts, bor2_bits, bor1_bits, bonr_bits, status_bits, ram_pair_r, ram_pair_s, pair_r, pair_s, sources, prt1_source, mask_source, rotate_u, rotate_r, rotate_mask, shift_source, bonr_source, rotnr_source, ram_pair_to, rotr1_to, sor_to, prt1_to, prt2_to, no_ram_to, back, bit_to, rotnr_to};
 
 use crate::{Destination, Source};
 use alu::{BitKind, OneOperandKind, ShiftKind, TwoOperandKind};
@@ -11,7 +11,7 @@ use alu::{BitKind, OneOperandKind, ShiftKind, TwoOperandKind};
 // Operations 0 to 5.
 fn sum_kind(b: u8) -> TwoOperandKind
     requires { b < 6 }
-    ensures { Along sameTwoOperandKind 16 (at twoOperands) b result }
+    ensures { Along same_two_operand_kind 16 (at two_operands) b result }
 {
     match b {
         0 => TwoOperandKind::SMinusR,
@@ -26,7 +26,7 @@ fn sum_kind(b: u8) -> TwoOperandKind
 // Operations 6 to 11.
 fn logic_kind(b: u8) -> TwoOperandKind
     requires { 6 ≤ b }
-    ensures { Along sameTwoOperandKind 16 (at twoOperands) b result }
+    ensures { Along same_two_operand_kind 16 (at two_operands) b result }
 {
     match b {
         6 => TwoOperandKind::And,
@@ -40,14 +40,14 @@ fn logic_kind(b: u8) -> TwoOperandKind
 
 // Field B of TOR1, TOR2 and TONR.
 pub(crate) fn two_operand_kind(b: u8) -> TwoOperandKind
-    ensures { Along sameTwoOperandKind 16 (at twoOperands) b result }
+    ensures { Along same_two_operand_kind 16 (at two_operands) b result }
 {
     if b < 6 { sum_kind(b) } else { logic_kind(b) }
 }
 
 // Field A of SOR and SONR.
 pub(crate) fn one_operand_kind(a: u8) -> OneOperandKind
-    ensures { Along sameOneOperandKind 16 (at oneOperands) a result }
+    ensures { Along same_one_operand_kind 16 (at one_operands) a result }
 {
     match a {
         13 => OneOperandKind::Complement,
@@ -60,7 +60,7 @@ pub(crate) fn one_operand_kind(a: u8) -> OneOperandKind
 // The shifts up.
 fn shift_up_kind(b: u8) -> ShiftKind
     requires { b < 4 }
-    ensures { Along sameShiftKind 16 (at shifts) b result }
+    ensures { Along same_shift_kind 16 (at shifts) b result }
 {
     match b {
         1 => ShiftKind::UpWithOne,
@@ -72,7 +72,7 @@ fn shift_up_kind(b: u8) -> ShiftKind
 // The shifts down.
 fn shift_down_kind(b: u8) -> ShiftKind
     requires { 4 ≤ b }
-    ensures { Along sameShiftKind 16 (at shifts) b result }
+    ensures { Along same_shift_kind 16 (at shifts) b result }
 {
     match b {
         4 => ShiftKind::DownWithZero,
@@ -86,7 +86,7 @@ fn shift_down_kind(b: u8) -> ShiftKind
 
 // Field B of SHFTR and SHFTNR.
 pub(crate) fn shift_kind(b: u8) -> ShiftKind
-    ensures { Along sameShiftKind 16 (at shifts) b result }
+    ensures { Along same_shift_kind 16 (at shifts) b result }
 {
     if b < 4 {
         shift_up_kind(b)
@@ -97,7 +97,7 @@ pub(crate) fn shift_kind(b: u8) -> ShiftKind
 
 // Field B of BOR2.
 pub(crate) fn bor2_kind(b: u8) -> BitKind
-    ensures { Along sameBitKind 16 (at bor2Bits) b result }
+    ensures { Along same_bit_kind 16 (at bor2_bits) b result }
 {
     match b {
         13 => BitKind::LoadBitComplement,
@@ -109,7 +109,7 @@ pub(crate) fn bor2_kind(b: u8) -> BitKind
 
 // Field B of BOR1.
 pub(crate) fn bor1_kind(b: u8) -> BitKind
-    ensures { Along sameBitKind 16 (at bor1Bits) b result }
+    ensures { Along same_bit_kind 16 (at bor1_bits) b result }
 {
     match b {
         14 => BitKind::ResetBit,
@@ -121,7 +121,7 @@ pub(crate) fn bor1_kind(b: u8) -> BitKind
 // Field C of BONR on ACC.
 fn acc_bit_kind(c: u8) -> BitKind
     requires { c < 16 }
-    ensures { Along sameBitKind 32 (at bonrBits) c result }
+    ensures { Along same_bit_kind 32 (at bonr_bits) c result }
 {
     match c {
         1 => BitKind::ResetBit,
@@ -137,7 +137,7 @@ fn acc_bit_kind(c: u8) -> BitKind
 // Field C of BONR on D.
 fn latch_bit_kind(c: u8) -> BitKind
     requires { 16 ≤ c }
-    ensures { Along sameBitKind 32 (at bonrBits) c result }
+    ensures { Along same_bit_kind 32 (at bonr_bits) c result }
 {
     match c {
         17 => BitKind::ResetBit,
@@ -152,7 +152,7 @@ fn latch_bit_kind(c: u8) -> BitKind
 
 // Field C of BONR.
 pub(crate) fn bonr_kind(c: u8) -> BitKind
-    ensures { Along sameBitKind 32 (at bonrBits) c result }
+    ensures { Along same_bit_kind 32 (at bonr_bits) c result }
 {
     if c < 16 {
         acc_bit_kind(c)
@@ -163,7 +163,7 @@ pub(crate) fn bonr_kind(c: u8) -> BitKind
 
 // Field C of SETST and RSTST: the status bits.
 pub(crate) fn status_bits(c: u8) -> u8
-    ensures { Along eqb 32 (at statusBits) c result }
+    ensures { Along eqb 32 (at status_bits) c result }
 {
     match c {
         3 => 0x0F,
@@ -177,7 +177,7 @@ pub(crate) fn status_bits(c: u8) -> u8
 
 // Field A of TOR1: R.
 pub(crate) fn ram_pair_r(a: u8) -> Source
-    ensures { Along sameSource 16 (at ramPairR) a result }
+    ensures { Along same_source 16 (at ram_pair_r) a result }
 {
     match a {
         3 => Source::Latch,
@@ -189,7 +189,7 @@ pub(crate) fn ram_pair_r(a: u8) -> Source
 
 // Field A of TOR1: S.
 pub(crate) fn ram_pair_s(a: u8) -> Source
-    ensures { Along sameSource 16 (at ramPairS) a result }
+    ensures { Along same_source 16 (at ram_pair_s) a result }
 {
     match a {
         2 => Source::Immediate,
@@ -204,7 +204,7 @@ pub(crate) fn ram_pair_s(a: u8) -> Source
 
 // Field A of TOR2 and TONR: R.
 pub(crate) fn pair_r(a: u8) -> Source
-    ensures { Along sameSource 16 (at pairR) a result }
+    ensures { Along same_source 16 (at pair_r) a result }
 {
     match a {
         2 => Source::Acc,
@@ -214,7 +214,7 @@ pub(crate) fn pair_r(a: u8) -> Source
 
 // Field A of TOR2 and TONR: S.
 pub(crate) fn pair_s(a: u8) -> Source
-    ensures { Along sameSource 16 (at pairS) a result }
+    ensures { Along same_source 16 (at pair_s) a result }
 {
     match a {
         1 => Source::Acc,
@@ -225,7 +225,7 @@ pub(crate) fn pair_s(a: u8) -> Source
 // Field B up to 5 as a source.
 fn low_source(b: u8) -> Source
     requires { b < 6 }
-    ensures { Along sameSource 16 (at sources) b result }
+    ensures { Along same_source 16 (at sources) b result }
 {
     match b {
         0 => Source::Ram,
@@ -238,7 +238,7 @@ fn low_source(b: u8) -> Source
 // Field B from 6 on as a source.
 fn high_source(b: u8) -> Source
     requires { 6 ≤ b }
-    ensures { Along sameSource 16 (at sources) b result }
+    ensures { Along same_source 16 (at sources) b result }
 {
     match b {
         6 => Source::Latch,
@@ -252,14 +252,14 @@ fn high_source(b: u8) -> Source
 
 // Field B of SOR, SONR, PRT3 and PRTNR: the source.
 pub(crate) fn source_at(b: u8) -> Source
-    ensures { Along sameSource 16 (at sources) b result }
+    ensures { Along same_source 16 (at sources) b result }
 {
     if b < 6 { low_source(b) } else { high_source(b) }
 }
 
 // Field B of PRT1: the source.
 pub(crate) fn prt1_source(b: u8) -> Source
-    ensures { Along sameSource 16 (at prt1Source) b result }
+    ensures { Along same_source 16 (at prt1_source) b result }
 {
     match b {
         7 => Source::Acc,
@@ -269,7 +269,7 @@ pub(crate) fn prt1_source(b: u8) -> Source
 
 // Field A of PRT2, PRT3 and PRTNR: the mask.
 pub(crate) fn mask_source(a: u8) -> Source
-    ensures { Along sameSource 16 (at maskSource) a result }
+    ensures { Along same_source 16 (at mask_source) a result }
 {
     match a {
         8 => Source::Acc,
@@ -280,7 +280,7 @@ pub(crate) fn mask_source(a: u8) -> Source
 
 // Field B of ROTR2, ROTC and ROTM: U.
 pub(crate) fn rotate_u(b: u8) -> Source
-    ensures { Along sameSource 16 (at rotateU) b result }
+    ensures { Along same_source 16 (at rotate_u) b result }
 {
     match b {
         0 => Source::Acc,
@@ -293,7 +293,7 @@ pub(crate) fn rotate_u(b: u8) -> Source
 
 // Field B of ROTC and ROTM: R.
 pub(crate) fn rotate_r(b: u8) -> Source
-    ensures { Along sameSource 16 (at rotateR) b result }
+    ensures { Along same_source 16 (at rotate_r) b result }
 {
     match b {
         3..=4 => Source::Ram,
@@ -305,7 +305,7 @@ pub(crate) fn rotate_r(b: u8) -> Source
 
 // Field B of ROTC and ROTM: the mask.
 pub(crate) fn rotate_mask(b: u8) -> Source
-    ensures { Along sameSource 16 (at rotateMask) b result }
+    ensures { Along same_source 16 (at rotate_mask) b result }
 {
     match b {
         4 => Source::Acc,
@@ -317,7 +317,7 @@ pub(crate) fn rotate_mask(b: u8) -> Source
 
 // Field A of SHFTR and SHFTNR: the source, which at 6 is the family's own.
 pub(crate) fn shift_source(own: Source, a: u8) -> Source
-    ensures { result ≡ at (shiftSource own) a }
+    ensures { result ≡ at (shift_source own) a }
 {
     if a == 6 { own } else { Source::Latch }
 }
@@ -339,7 +339,7 @@ pub(crate) fn back_to(source: Source) -> Destination
 
 // Where a bit operation goes.
 pub(crate) fn bit_to(kind: BitKind, source: Source) -> Destination
-    ensures { result ≡ bitTo kind source }
+    ensures { result ≡ bit_to kind source }
 {
     match kind {
         BitKind::SetBit => back_to(source),
@@ -354,7 +354,7 @@ pub(crate) fn bit_to(kind: BitKind, source: Source) -> Destination
 
 // Field C of BONR: the source.
 pub(crate) fn bonr_source(c: u8) -> Source
-    ensures { Along sameSource 32 (at bonrSource) c result }
+    ensures { Along same_source 32 (at bonr_source) c result }
 {
     match c {
         0..=2 => Source::Acc,
@@ -365,7 +365,7 @@ pub(crate) fn bonr_source(c: u8) -> Source
 
 // Field C of ROTNR: the source.
 pub(crate) fn rotnr_source(c: u8) -> Source
-    ensures { Along sameSource 32 (at rotnrSource) c result }
+    ensures { Along same_source 32 (at rotnr_source) c result }
 {
     match c {
         24..=25 => Source::Latch,
@@ -375,7 +375,7 @@ pub(crate) fn rotnr_source(c: u8) -> Source
 
 // Field A of TOR1: the destination.
 pub(crate) fn ram_pair_to(a: u8) -> Destination
-    ensures { Along sameDestination 16 (at ramPairTo) a result }
+    ensures { Along same_destination 16 (at ram_pair_to) a result }
 {
     match a {
         8 => Destination::ToY,
@@ -388,7 +388,7 @@ pub(crate) fn ram_pair_to(a: u8) -> Destination
 
 // Field B of ROTR1: the destination.
 pub(crate) fn rotr1_to(b: u8) -> Destination
-    ensures { Along sameDestination 16 (at rotr1To) b result }
+    ensures { Along same_destination 16 (at rotr1_to) b result }
 {
     match b {
         14 => Destination::ToY,
@@ -399,7 +399,7 @@ pub(crate) fn rotr1_to(b: u8) -> Destination
 
 // Field B of SOR: the destination.
 pub(crate) fn sor_to(b: u8) -> Destination
-    ensures { Along sameDestination 16 (at sorTo) b result }
+    ensures { Along same_destination 16 (at sor_to) b result }
 {
     match b {
         0 => Destination::ToAcc,
@@ -411,7 +411,7 @@ pub(crate) fn sor_to(b: u8) -> Destination
 
 // Field A of PRT1: the destination.
 pub(crate) fn prt1_to(a: u8) -> Destination
-    ensures { Along sameDestination 16 (at prt1To) a result }
+    ensures { Along same_destination 16 (at prt1_to) a result }
 {
     match a {
         10 => Destination::ToY,
@@ -422,7 +422,7 @@ pub(crate) fn prt1_to(a: u8) -> Destination
 
 // Field B of PRT2: the destination.
 pub(crate) fn prt2_to(b: u8) -> Destination
-    ensures { Along sameDestination 16 (at prt2To) b result }
+    ensures { Along same_destination 16 (at prt2_to) b result }
 {
     match b {
         2 => Destination::ToY,
@@ -432,7 +432,7 @@ pub(crate) fn prt2_to(b: u8) -> Destination
 
 // Field C of SONR, TONR, SHFTNR, PRTNR and SVSTNR: the destination.
 pub(crate) fn no_ram_to(c: u8) -> Destination
-    ensures { Along sameDestination 32 (at noRamTo) c result }
+    ensures { Along same_destination 32 (at no_ram_to) c result }
 {
     match c {
         1 => Destination::ToAcc,
@@ -444,7 +444,7 @@ pub(crate) fn no_ram_to(c: u8) -> Destination
 
 // Field C of ROTNR: the destination.
 pub(crate) fn rotnr_to(c: u8) -> Destination
-    ensures { Along sameDestination 32 (at rotnrTo) c result }
+    ensures { Along same_destination 32 (at rotnr_to) c result }
 {
     match c {
         25 => Destination::ToAcc,

@@ -11,14 +11,14 @@ use lib.Bits.{bit_xor, xor_lt, xor_comm, xor_block, xor_shifted, xor_zero_l, xor
 use lib.ListN.{length}
 use Rattle.choice.specs.Pick.{pick}
 use Rattle.alu.specs.Width.{bit}
-use Rattle.alu.specs.Flags.{storedLINK}
-use Rattle.alu.specs.Operations.{gated, movedUp, crcForward}
-use Rattle.alu.proofs.Bits.{bit-cases}
-use Rattle.alu.proofs.Shapes.{gated-lt, moved-up-lt}
-use Rattle.alu.proofs.Xors.{xor_assoc, xor-shl, xor-front}
+use Rattle.alu.specs.Flags.{stored_link}
+use Rattle.alu.specs.Operations.{gated, moved_up, crc_forward}
+use Rattle.alu.proofs.Bits.{bit_cases}
+use Rattle.alu.proofs.Shapes.{gated_lt, moved_up_lt}
+use Rattle.alu.proofs.Xors.{xor_assoc, xor_shl, xor_front}
 use Rattle.alu.proofs.Linear.{fed, fed-lt, step_is}
-use Rattle.remainder.specs.Remainder.{digit, messagePolynomial, dividend, divisor, product, Remainder}
-use Rattle.remainder.proofs.Multiples.{longer, product-next}
+use Rattle.remainder.specs.Remainder.{digit, message_polynomial, dividend, divisor, product, Remainder}
+use Rattle.remainder.proofs.Multiples.{longer, product_next}
 
 digit_lt : (b : Bool) → digit b < 2
 digit_lt true = omega arith
@@ -26,57 +26,57 @@ digit_lt false = omega arith
 
 -- A bit more of the message.
 
-polynomial-next : (bits : List Bool) (b : Bool) → messagePolynomial (bits ++ b ∷ []) ≡ messagePolynomial bits * 2 + digit b
-polynomial-next [] b = omega arith
-polynomial-next (c ∷ bits) b =
-    ap₂ (λ (size v : ℕ). digit c * size + v) (longer bits b) (polynomial-next bits b) ∙ omega arith
+polynomial_next : (bits : List Bool) (b : Bool) → message_polynomial (bits ++ b ∷ []) ≡ message_polynomial bits * 2 + digit b
+polynomial_next [] b = omega arith
+polynomial_next (c ∷ bits) b =
+    ap₂ (λ (size v : ℕ). digit c * size + v) (longer bits b) (polynomial_next bits b) ∙ omega arith
 
-dividend-next : (start : ℕ) (bits : List Bool) (b : Bool) → dividend start (bits ++ b ∷ []) ≡ bit_xor (dividend start bits * 2) (digit b * 2 ^ 16)
-dividend-next start bits b =
+dividend_next : (start : ℕ) (bits : List Bool) (b : Bool) → dividend start (bits ++ b ∷ []) ≡ bit_xor (dividend start bits * 2) (digit b * 2 ^ 16)
+dividend_next start bits b =
     ap₂ bit_xor start-part message-part
     ∙ sym (xor_assoc (start * 2 ^ m * 2) (v * 2 ^ 16 * 2) (digit b * 2 ^ 16))
-    ∙ ap (λ (x : ℕ). bit_xor x (digit b * 2 ^ 16)) (xor-shl (start * 2 ^ m) (v * 2 ^ 16) 1)
+    ∙ ap (λ (x : ℕ). bit_xor x (digit b * 2 ^ 16)) (xor_shl (start * 2 ^ m) (v * 2 ^ 16) 1)
   where
     m : ℕ
     m = length bits
 
     v : ℕ
-    v = messagePolynomial bits
+    v = message_polynomial bits
 
     start-part : start * 2 ^ length (bits ++ b ∷ []) ≡ start * 2 ^ m * 2
     start-part = ap (λ (size : ℕ). start * size) (longer bits b) ∙ omega arith
 
-    message-part : messagePolynomial (bits ++ b ∷ []) * 2 ^ 16 ≡ bit_xor (v * 2 ^ 16 * 2) (digit b * 2 ^ 16)
+    message-part : message_polynomial (bits ++ b ∷ []) * 2 ^ 16 ≡ bit_xor (v * 2 ^ 16 * 2) (digit b * 2 ^ 16)
     message-part =
         let e : v * 2 * 2 ^ 16 ≡ v * 2 ^ 16 * 2 = omega arith in
-        ap (λ (x : ℕ). x * 2 ^ 16) (polynomial-next bits b ∙ sym (xor_shifted v 1 (digit b) (digit_lt b)))
-        ∙ sym (xor-shl (v * 2) (digit b) 16)
+        ap (λ (x : ℕ). x * 2 ^ 16) (polynomial_next bits b ∙ sym (xor_shifted v 1 (digit b) (digit_lt b)))
+        ∙ sym (xor_shl (v * 2) (digit b) 16)
         ∙ ap (λ (x : ℕ). bit_xor x (digit b * 2 ^ 16)) e
 
 -- A step on a register a, with p in ACC and a bit in LINK.
 module _ (p a status : ℕ) (hp : p < 2 ^ 16) (ha : a < 2 ^ 16) where
   abbrev link : ℕ
-  link = storedLINK status
+  link = stored_link status
 
   -- the coefficient of x^16 in a * x + link * x^16
   abbrev lead : ℕ
   lead = fed 16 p a status
 
   abbrev moved : ℕ
-  moved = movedUp 16 a 0
+  moved = moved_up 16 a 0
 
   abbrev next : ℕ
-  next = (crcForward 16 a p status).result
+  next = (crc_forward 16 a p status).result
 
   moved-lt : moved < 2 ^ 16
-  moved-lt = moved-up-lt 16 a 0
+  moved-lt = moved_up_lt 16 a 0
 
   pub next-lt : next < 2 ^ 16
-  next-lt = rw (step_is 16 p a status) (xor_lt 16 moved (gated lead p) moved-lt (gated-lt 16 lead p hp))
+  next-lt = rw (step_is 16 p a status) (xor_lt 16 moved (gated lead p) moved-lt (gated_lt 16 lead p hp))
 
   -- x times the register and the bit: what would stand at x^16, and the register moved up
   times-x : bit_xor (a * 2) (link * 2 ^ 16) ≡ lead * 2 ^ 16 + moved
-  unfolding movedUp
+  unfolding moved_up
   times-x =
       let up : a * 2 ≡ bit 15 a * 2 ^ 16 + (a * 2 + 0) % 2 ^ 16 = omega arith in
       let over : link * 2 ^ 16 ≡ link * 2 ^ 16 + 0 = omega arith in
@@ -86,7 +86,7 @@ module _ (p a status : ℕ) (hp : p < 2 ^ 16) (ha : a < 2 ^ 16) where
 
   -- subtracting the divisor removes x^16
   taken-off : (f : ℕ) → f < 2 → bit_xor (pick (eqb f 1) (divisor p) 0) (bit_xor moved (gated f p)) ≡ f * 2 ^ 16 + moved
-  taken-off = bit-cases (λ (f : ℕ). bit_xor (pick (eqb f 1) (divisor p) 0) (bit_xor moved (gated f p)) ≡ f * 2 ^ 16 + moved) none once
+  taken-off = bit_cases (λ (f : ℕ). bit_xor (pick (eqb f 1) (divisor p) 0) (bit_xor moved (gated f p)) ≡ f * 2 ^ 16 + moved) none once
     where
       none : bit_xor 0 (bit_xor moved 0) ≡ 0 * 2 ^ 16 + moved
       none = xor_zero_l (bit_xor moved 0) ∙ xor_zero_r moved ∙ omega arith
@@ -97,7 +97,7 @@ module _ (p a status : ℕ) (hp : p < 2 ^ 16) (ha : a < 2 ^ 16) where
           let low : bit_xor moved p ≡ 0 * 2 ^ 16 + bit_xor moved p = omega arith in
           ap₂ bit_xor top low
           ∙ xor_block 16 1 0 p (bit_xor moved p) hp (xor_lt 16 moved p moved-lt hp)
-          ∙ ap (λ (x : ℕ). 1 * 2 ^ 16 + x) (xor-front p moved)
+          ∙ ap (λ (x : ℕ). 1 * 2 ^ 16 + x) (xor_front p moved)
 
   pub step-divides : bit_xor (a * 2) (link * 2 ^ 16) ≡ bit_xor (pick (eqb lead 1) (divisor p) 0) next
   step-divides =
@@ -114,20 +114,20 @@ no_bits p start h = record {
 }
 
 -- with a bit in LINK, a step leads from the remainder of a message to that of the message with the bit
-pub one_bit : (p start : ℕ) (bits : List Bool) (b : Bool) (a status : ℕ) → p < 2 ^ 16 → storedLINK status ≡ digit b
-    → Remainder (divisor p) (dividend start bits) a → Remainder (divisor p) (dividend start (bits ++ b ∷ [])) (crcForward 16 a p status).result
+pub one_bit : (p start : ℕ) (bits : List Bool) (b : Bool) (a status : ℕ) → p < 2 ^ 16 → stored_link status ≡ digit b
+    → Remainder (divisor p) (dividend start bits) a → Remainder (divisor p) (dividend start (bits ++ b ∷ [])) (crc_forward 16 a p status).result
 one_bit p start bits b a status hp link r =
     let q : Bool = eqb (fed 16 p a status) 1 in
-    let next = (crcForward 16 a p status).result in
+    let next = (crc_forward 16 a p status).result in
     let whole : ℕ = product (divisor p) r.quotient in
     record {
       quotient = r.quotient ++ q ∷ [];
       makes =
-          ap (λ (x : ℕ). bit_xor x next) (product-next (divisor p) r.quotient q)
+          ap (λ (x : ℕ). bit_xor x next) (product_next (divisor p) r.quotient q)
           ∙ xor_assoc (whole * 2) (pick q (divisor p) 0) next
           ∙ ap (bit_xor (whole * 2)) (sym (step-divides p a status hp r.small) ∙ ap (λ (x : ℕ). bit_xor (a * 2) (x * 2 ^ 16)) link)
           ∙ sym (xor_assoc (whole * 2) (a * 2) (digit b * 2 ^ 16))
-          ∙ ap (λ (x : ℕ). bit_xor x (digit b * 2 ^ 16)) (xor-shl whole a 1 ∙ ap (λ (x : ℕ). x * 2) r.makes)
-          ∙ sym (dividend-next start bits b);
+          ∙ ap (λ (x : ℕ). bit_xor x (digit b * 2 ^ 16)) (xor_shl whole a 1 ∙ ap (λ (x : ℕ). x * 2) r.makes)
+          ∙ sym (dividend_next start bits b);
       small = next-lt p a status hp r.small;
     }

@@ -12,8 +12,8 @@ use lib.Bits.{bit_xor, xor_lt, xor_zero_l, xor_zero_r}
 use lib.ListN.{length, replicate, length-append, length-replicate}
 use Rattle.choice.specs.Pick.{pick}
 use Rattle.alu.specs.Width.{bit}
-use Rattle.alu.proofs.Bits.{bit-xor, bit-above, bit-upper}
-use Rattle.alu.proofs.Xors.{xor_assoc, xor-shl, xor-cancel}
+use Rattle.alu.proofs.Bits.{bit_xor_lem, bit_above, bit_upper}
+use Rattle.alu.proofs.Xors.{xor_assoc, xor_shl, xor_cancel}
 use Rattle.remainder.specs.Remainder.{digit, divisor, product, Remainder}
 
 -- one bit more doubles 2 ^ length
@@ -21,13 +21,13 @@ pub longer : (bits : List Bool) (b : Bool) → 2 ^ length (bits ++ b ∷ []) ≡
 longer bits b = ap (λ (n : ℕ). 2 ^ n) (length-append bits (b ∷ []) ∙ add-one (length bits)) ∙ pow-suc 2 (length bits)
 
 -- one bit more of a quotient: the product times x, plus the divisor if the bit is 1
-pub product-next : (p : ℕ) (bits : List Bool) (b : Bool) → product p (bits ++ b ∷ []) ≡ bit_xor (product p bits * 2) (pick b p 0)
-product-next p [] true = omega (arith, xor_zero_r (p * 1), xor_zero_l p)
-product-next p [] false = refl
-product-next p (c ∷ bits) b =
-    ap₂ bit_xor (moved c) (product-next p bits b)
+pub product_next : (p : ℕ) (bits : List Bool) (b : Bool) → product p (bits ++ b ∷ []) ≡ bit_xor (product p bits * 2) (pick b p 0)
+product_next p [] true = omega (arith, xor_zero_r (p * 1), xor_zero_l p)
+product_next p [] false = refl
+product_next p (c ∷ bits) b =
+    ap₂ bit_xor (moved c) (product_next p bits b)
     ∙ sym (xor_assoc (first * 2) (product p bits * 2) (pick b p 0))
-    ∙ ap (λ (x : ℕ). bit_xor x (pick b p 0)) (xor-shl first (product p bits) 1)
+    ∙ ap (λ (x : ℕ). bit_xor x (pick b p 0)) (xor_shl first (product p bits) 1)
   where
     first : ℕ
     first = pick c (p * 2 ^ length bits) 0
@@ -36,11 +36,11 @@ product-next p (c ∷ bits) b =
     moved true = ap (λ (size : ℕ). p * size) (longer bits b) ∙ omega arith
     moved false = refl
 
-digit-one : (b c : Bool) → digit b ≡ digit c → b ≡ c
-digit-one true true e = refl
-digit-one true false e = absurd (omega arith)
-digit-one false true e = absurd (omega arith)
-digit-one false false e = refl
+digit_one : (b c : Bool) → digit b ≡ digit c → b ≡ c
+digit_one true true e = refl
+digit_one true false e = absurd (omega arith)
+digit_one false true e = absurd (omega arith)
+digit_one false false e = refl
 
 module _ (p : ℕ) (hp : p < 2 ^ 16) where
   abbrev by : ℕ
@@ -71,35 +71,35 @@ module _ (p : ℕ) (hp : p < 2 ^ 16) where
       let e : 16 + n ≡ n + 16 = omega arith in
       let z : by * 2 ^ n ≡ by * 2 ^ n + 0 = omega arith in
       let top : bit 16 by ≡ 1 = omega arith in
-      ap₂ bit e z ∙ bit-upper n 16 by 0 (pow_pos n) ∙ top
-  first-top false n = bit-above (16 + n) 0 (pow_pos (16 + n))
+      ap₂ bit e z ∙ bit_upper n 16 by 0 (pow_pos n) ∙ top
+  first-top false n = bit_above (16 + n) 0 (pow_pos (16 + n))
 
-  made-first : (b : Bool) (bits : List Bool) (r : ℕ) → made (b ∷ bits) r ≡ bit_xor (pick b (by * 2 ^ length bits) 0) (made bits r)
-  made-first b bits r = xor_assoc (pick b (by * 2 ^ length bits) 0) (product by bits) r
+  made_first : (b : Bool) (bits : List Bool) (r : ℕ) → made (b ∷ bits) r ≡ bit_xor (pick b (by * 2 ^ length bits) 0) (made bits r)
+  made_first b bits r = xor_assoc (pick b (by * 2 ^ length bits) 0) (product by bits) r
 
   made-top : (b : Bool) (bits : List Bool) (r : ℕ) → r < 2 ^ 16 → bit (16 + length bits) (made (b ∷ bits) r) ≡ digit b
   made-top b bits r h =
       let n = length bits in
-      ap (bit (16 + n)) (made-first b bits r)
-      ∙ bit-xor (16 + n) (pick b (by * 2 ^ n) 0) (made bits r)
-      ∙ ap₂ bit_xor (first-top b n) (bit-above (16 + n) (made bits r) (made-lt bits r h))
+      ap (bit (16 + n)) (made_first b bits r)
+      ∙ bit_xor_lem (16 + n) (pick b (by * 2 ^ n) 0) (made bits r)
+      ∙ ap₂ bit_xor (first-top b n) (bit_above (16 + n) (made bits r) (made-lt bits r h))
       ∙ xor_zero_r (digit b)
 
   -- two quotients of one length that make the same number leave the same remainder
-  same-made : (qs ts : List Bool) (r s : ℕ) → length qs ≡ length ts → r < 2 ^ 16 → s < 2 ^ 16 → made qs r ≡ made ts s → r ≡ s
-  same-made [] [] r s l hr hs e = e
-  same-made [] (t ∷ ts) r s l hr hs e = absurd (omega arith)
-  same-made (q ∷ qs) [] r s l hr hs e = absurd (omega arith)
-  same-made (q ∷ qs) (t ∷ ts) r s l hr hs e =
+  same_made : (qs ts : List Bool) (r s : ℕ) → length qs ≡ length ts → r < 2 ^ 16 → s < 2 ^ 16 → made qs r ≡ made ts s → r ≡ s
+  same_made [] [] r s l hr hs e = e
+  same_made [] (t ∷ ts) r s l hr hs e = absurd (omega arith)
+  same_made (q ∷ qs) [] r s l hr hs e = absurd (omega arith)
+  same_made (q ∷ qs) (t ∷ ts) r s l hr hs e =
       let n = length qs in
       let m : length ts ≡ n = omega arith in
       let top : digit q ≡ digit t =
       sym (made-top q qs r hr) ∙ ap (bit (16 + n)) e ∙ ap (λ (i : ℕ). bit (16 + i) (made (t ∷ ts) s)) (sym m) ∙ made-top t ts s hs in
       let first : pick t (by * 2 ^ length ts) 0 ≡ pick q (by * 2 ^ n) 0 =
-      ap₂ (λ (b : Bool) (i : ℕ). pick b (by * 2 ^ i) 0) (sym (digit-one q t top)) m in
-      same-made qs ts r s (sym m) hr hs
-      (xor-cancel (pick q (by * 2 ^ n) 0) (made qs r) (made ts s)
-      (sym (made-first q qs r) ∙ e ∙ made-first t ts s ∙ ap (λ (x : ℕ). bit_xor x (made ts s)) first))
+      ap₂ (λ (b : Bool) (i : ℕ). pick b (by * 2 ^ i) 0) (sym (digit_one q t top)) m in
+      same_made qs ts r s (sym m) hr hs
+      (xor_cancel (pick q (by * 2 ^ n) 0) (made qs r) (made ts s)
+      (sym (made_first q qs r) ∙ e ∙ made_first t ts s ∙ ap (λ (x : ℕ). bit_xor x (made ts s)) first))
 
   -- zeros before a quotient change nothing
   zeros-first : (n : ℕ) (bits : List Bool) → product by (replicate n false ++ bits) ≡ product by bits
@@ -113,7 +113,7 @@ module _ (p : ℕ) (hp : p < 2 ^ 16) where
   one-remainder n r s a b =
       let qs = a.quotient in
       let ts = b.quotient in
-      same-made (replicate (length ts) false ++ qs) (replicate (length qs) false ++ ts) r s
+      same_made (replicate (length ts) false ++ qs) (replicate (length qs) false ++ ts) r s
       (omega (arith, zeros-long (length ts) qs, zeros-long (length qs) ts)) a.small b.small
       (ap (λ (x : ℕ). bit_xor x r) (zeros-first (length ts) qs) ∙ a.makes ∙ sym b.makes
       ∙ ap (λ (x : ℕ). bit_xor x s) (sym (zeros-first (length qs) ts)))

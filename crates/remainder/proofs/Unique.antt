@@ -9,28 +9,28 @@ use lib.Dec.{eqb}
 use lib.ListN.{get_or}
 use lib.Seq.{ext_get_or}
 use Rattle.machine.specs.declared.Registers.{Registers}
-use Rattle.machine.specs.Seeing.{registerAt}
+use Rattle.machine.specs.Seeing.{register_at}
 use Rattle.remainder.specs.Remainder.{Direction, dividend, divisor, Remainder, oriented, Holds}
 use Rattle.remainder.proofs.Multiples.{one-remainder}
 
 -- any number that is the remainder is what register k has
-pub known-remainder : (d : Direction) (k start polynomial : ℕ) (message : List Bool) (before after : Registers) (r : ℕ) → polynomial < 2 ^ 16
-    → Holds d k start polynomial message before after → Remainder (divisor polynomial) (dividend start message) r → registerAt after k ≡ oriented d r
-known-remainder d k start polynomial message before after r small h known =
+pub known_remainder : (d : Direction) (k start polynomial : ℕ) (message : List Bool) (before after : Registers) (r : ℕ) → polynomial < 2 ^ 16
+    → Holds d k start polynomial message before after → Remainder (divisor polynomial) (dividend start message) r → register_at after k ≡ oriented d r
+known_remainder d k start polynomial message before after r small h known =
     h.register ∙ ap (oriented d) (one-remainder polynomial small (dividend start message) h.remainder r h.divided known)
 
-pub one-outcome : (d : Direction) (k start polynomial : ℕ) (message : List Bool) (before one other : Registers) → polynomial < 2 ^ 16
+pub one_outcome : (d : Direction) (k start polynomial : ℕ) (message : List Bool) (before one other : Registers) → polynomial < 2 ^ 16
     → Holds d k start polynomial message before one → Holds d k start polynomial message before other → (one.ram ≡ other.ram) × (one.acc ≡ other.acc)
-one-outcome d k start polynomial message before one other small h g =
+one_outcome d k start polynomial message before one other small h g =
     (ext_get_or 0 one.ram other.ram (h.size ∙ sym g.size) (λ j l. at j (omega (arith, h.size))), h.acc ∙ sym g.acc)
   where
-    in_place : registerAt one k ≡ registerAt other k
-    in_place = known-remainder d k start polynomial message before one g.remainder small h g.divided ∙ sym g.register
+    in_place : register_at one k ≡ register_at other k
+    in_place = known_remainder d k start polynomial message before one g.remainder small h g.divided ∙ sym g.register
 
-    named : (j : ℕ) → j < 32 → registerAt one j ≡ registerAt other j
+    named : (j : ℕ) → j < 32 → register_at one j ≡ register_at other j
     named j l = by-test (eqb j k) refl
       where
-        by-test : (b : Bool) → eqb j k ≡ b → registerAt one j ≡ registerAt other j
+        by-test : (b : Bool) → eqb j k ≡ b → register_at one j ≡ register_at other j
         by-test true e = rw (eqb-true j k e) in_place
         by-test false e = h.others j l (eqb-false j k e) ∙ sym (g.others j l (eqb-false j k e))
 

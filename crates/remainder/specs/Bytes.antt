@@ -3,9 +3,9 @@ use Rattle.std.specs.Prelude.{Bool, List, [], ◌∷◌, ◌++◌, ℕ, zero, su
 use Rattle.alu.specs.Width.{bit}
 
 -- the low n bits of a number, the highest of them first: the order of the check
-abbrev pub highFirst : ℕ → ℕ → List Bool
-highFirst zero x = []
-highFirst (suc n) x = eqb (bit n x) 1 ∷ highFirst n x
+abbrev pub high_first : ℕ → ℕ → List Bool
+high_first zero x = []
+high_first (suc n) x = eqb (bit n x) 1 ∷ high_first n x
 
 -- the lowest first: the order of the customary mirrored checks, which no document asks for
 abbrev pub low_first : ℕ → ℕ → List Bool

@@ -1,5 +1,5 @@
 -- What a message leaves in a register that it is put through bit by bit (document 02, §11), in the order of the request: the cycles, the
--- remainder, its mirror, and what is there before and after. The theorem is `remainder-left` (proofs/Laws).
+-- remainder, its mirror, and what is there before and after. The theorem is `remainder_left` (proofs/Laws).
 use Rattle.std.specs.Prelude.{◌≡◌, Bool, true, false, List, [], ◌∷◌, ℕ, zero, suc, ◌+◌, ◌*◌, ◌/◌, ◌%◌, ◌^◌, ◌<◌, length}
 use Rattle.std.specs.Int.Bits.{bit_xor}
 use Rattle.choice.specs.Pick.{pick}
@@ -7,19 +7,19 @@ use Rattle.choice.specs.Tells.{accepted}
 use Rattle.alu.specs.declared.Mode.TheVariants.{Byte, Word}
 use Rattle.isa.specs.declared.Family.TheVariants.{Crcf, Crcr, Setst, Rstst}
 use Rattle.isa.specs.declared.Named.{Named}
-use Rattle.isa.specs.Words.{decodeOf}
+use Rattle.isa.specs.Words.{decode_of}
 use Rattle.machine.specs.declared.Waiting.TheVariants.{Nothing}
 use Rattle.machine.specs.declared.Registers.{Registers}
 use Rattle.machine.specs.declared.Words.{Words}
-use Rattle.machine.specs.Pins.{bothLow, strayPin, busClash}
-use Rattle.machine.specs.Seeing.{registerAt}
+use Rattle.machine.specs.Pins.{both_low, stray_pin, bus_clash}
+use Rattle.machine.specs.Seeing.{register_at}
 
 -- The cycles.
 
 -- LINK alone is set for a bit that is 1 (SETST, the word 7745) and reset for one that is 0 (RSTST, 7545)
-abbrev pub putInLink : Bool → Named
-putInLink true = record { family = Setst; mode = Byte; a = 11; b = 10; c = 5 }
-putInLink false = record { family = Rstst; mode = Byte; a = 10; b = 10; c = 5 }
+abbrev pub put_in_link : Bool → Named
+put_in_link true = record { family = Setst; mode = Byte; a = 11; b = 10; c = 5 }
+put_in_link false = record { family = Rstst; mode = Byte; a = 10; b = 10; c = 5 }
 
 -- CRCF or, for the mirrored rule, CRCR
 pub data Direction : Type 0 where
@@ -27,22 +27,22 @@ pub data Direction : Type 0 where
   reverse : Direction
 
 -- on register k (the words CC60 + k and CD20 + k)
-abbrev pub stepOn : ℕ → Direction → Named
-stepOn k forward = record { family = Crcf; mode = Word; a = 6; b = 3; c = k }
-stepOn k reverse = record { family = Crcr; mode = Word; a = 6; b = 9; c = k }
+abbrev pub step_on : ℕ → Direction → Named
+step_on k forward = record { family = Crcf; mode = Word; a = 6; b = 3; c = k }
+step_on k reverse = record { family = Crcr; mode = Word; a = 6; b = 9; c = k }
 
 -- a cycle whose lines are this instruction's word, with IEN and SRE low and pins free of refusals 5 and 6; its Y input and all other pins are free
 pub record Asks (i : Named) (c : Words) : Type 0 where
-  pub word : decodeOf c.lines ≡ accepted i
-  pub low : bothLow c.pins ≡ true
-  pub stray : strayPin c.pins ≡ false
-  pub clash : busClash c.pins ≡ false
+  pub word : decode_of c.lines ≡ accepted i
+  pub low : both_low c.pins ≡ true
+  pub stray : stray_pin c.pins ≡ false
+  pub clash : bus_clash c.pins ≡ false
 
 -- the cycles of a message: for each bit, from the first on, one that puts it into LINK and one that steps
 pub data Feeds (d : Direction) (k : ℕ) : List Bool → List Words → Type 0 where
   empty : Feeds d k [] []
   next : {b : Bool} {bits : List Bool} {x y : Words} {cycles : List Words}
-      → Asks (putInLink b) x → Asks (stepOn k d) y → Feeds d k bits cycles → Feeds d k (b ∷ bits) (x ∷ y ∷ cycles)
+      → Asks (put_in_link b) x → Asks (step_on k d) y → Feeds d k bits cycles → Feeds d k (b ∷ bits) (x ∷ y ∷ cycles)
 
 -- The remainder. A number stands for a polynomial over bits: its bit i is the coefficient of x^i. So the sum of two is their xor, times x^i is
 -- times 2 ^ i, and a degree below i is a number below 2 ^ i. Where no power of x stands in both, + is xor.
@@ -51,13 +51,13 @@ abbrev pub digit : Bool → ℕ
 digit b = pick b 1 0
 
 -- the message as a polynomial, its first bit highest
-abbrev pub messagePolynomial : List Bool → ℕ
-messagePolynomial [] = 0
-messagePolynomial (b ∷ bits) = digit b * 2 ^ length bits + messagePolynomial bits
+abbrev pub message_polynomial : List Bool → ℕ
+message_polynomial [] = 0
+message_polynomial (b ∷ bits) = digit b * 2 ^ length bits + message_polynomial bits
 
 -- the start moved up by as many places as the message has bits, and the message by 16
 abbrev pub dividend : ℕ → List Bool → ℕ
-dividend start message = bit_xor (start * 2 ^ length message) (messagePolynomial message * 2 ^ 16)
+dividend start message = bit_xor (start * 2 ^ length message) (message_polynomial message * 2 ^ 16)
 
 -- x^16 plus the polynomial in ACC
 abbrev pub divisor : ℕ → ℕ
@@ -93,9 +93,9 @@ oriented reverse x = mirror 16 x
 pub record Ready (d : Direction) (k start polynomial : ℕ) (r : Registers) : Type 0 where
   pub address : k < 32
   pub size : length r.ram ≡ 32
-  pub start-lt : start < 2 ^ 16
-  pub polynomial-lt : polynomial < 2 ^ 16
-  pub register : registerAt r k ≡ oriented d start
+  pub start_lt : start < 2 ^ 16
+  pub polynomial_lt : polynomial < 2 ^ 16
+  pub register : register_at r k ≡ oriented d start
   pub acc : r.acc ≡ oriented d polynomial
   pub waiting : r.waiting ≡ Nothing
 
@@ -104,8 +104,8 @@ pub record Ready (d : Direction) (k start polynomial : ℕ) (r : Registers) : Ty
 pub record Holds (d : Direction) (k start polynomial : ℕ) (message : List Bool) (before after : Registers) : Type 0 where
   pub remainder : ℕ
   pub divided : Remainder (divisor polynomial) (dividend start message) remainder
-  pub register : registerAt after k ≡ oriented d remainder
-  pub others : (j : ℕ) → j < 32 → (j ≡ k → ⊥) → registerAt after j ≡ registerAt before j
+  pub register : register_at after k ≡ oriented d remainder
+  pub others : (j : ℕ) → j < 32 → (j ≡ k → ⊥) → register_at after j ≡ register_at before j
   pub size : length after.ram ≡ 32
   pub acc : after.acc ≡ before.acc
   pub waiting : after.waiting ≡ Nothing

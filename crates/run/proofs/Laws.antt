@@ -1,6 +1,6 @@
 -- What satisfies the statement of `run`: the cycles one after another (`cycle-by-cycle`) or, where the run is refused as a whole, its start
 -- (`returned`), both of any answer; every machine on the way of a started run may start (`may-go-on`), so that none of its cycles is refused with
--- 4 (demands, Refusals); and no two outcomes satisfy the statement (`run-unique`).
+-- 4 (demands, Refusals); and no two outcomes satisfy the statement (`run_unique`).
 use mathlib.Core.Path.{◌≡◌, refl, sym, ap, ◌∙◌, subst, subst⁻¹}
 use mathlib.Core.Bool.{true, false}
 use mathlib.Core.List.{List, ◌++◌}
@@ -13,45 +13,45 @@ use borrow.Author.Tests.{ne_eqb}
 use Rattle.choice.specs.Tells.{Tells, accepted, refused, Placed}
 use Rattle.choice.proofs.Tells.{whole-one, refused-at-one, whole-refused}
 use Rattle.machine.specs.declared.Machine.{Machine}
-use Rattle.machine.specs.Judging.{mayStart}
+use Rattle.machine.specs.Judging.{may_start}
 use Rattle.machine.proofs.Laws.{accepted-may-start}
 use Rattle.run.specs.declared.Ending.{Ending}
 use Rattle.run.specs.declared.Ending.TheVariants.{Done, Stopped, Refused}
 use Rattle.run.specs.declared.Ran.{Ran}
-use Rattle.run.specs.Splitting.{cycleAt, cyclesIn, cyclesFrom, wordsPerReport}
-use Rattle.run.specs.Courses.{Finish, done, stopped, Course, closing, run_from, reportsOf}
-use Rattle.run.specs.Runs.{startRefusal, run_of, Summary, placed, summaryOf, endingTells, ranTells, Gives}
-use Rattle.run.specs.Following.{machineAt, turnAt, completedBefore, Ends, CycleByCycle, Returned}
-use Rattle.run.proofs.Courses.{reports-length}
-use Rattle.run.proofs.Starting.{started, refused-whole}
+use Rattle.run.specs.Splitting.{cycle_at, cycles_in, cycles_from, words_per_report}
+use Rattle.run.specs.Courses.{Finish, done, stopped, Course, closing, run_from, reports_of}
+use Rattle.run.specs.Runs.{start_refusal, run_of, Summary, placed, summary_of, ending_tells, ran_tells, Gives}
+use Rattle.run.specs.Following.{machine_at, turn_at, completed_before, Ends, CycleByCycle, Returned}
+use Rattle.run.proofs.Courses.{reports_length}
+use Rattle.run.proofs.Starting.{started, refused_whole}
 use Rattle.run.proofs.Turns.{Closes, accepted-turns, report-turns, machine-turns, completed-turns, closes}
 
-done-stopped : done ≡ stopped → ⊥
-done-stopped e = subst (λ (f : Finish). T (elim f [ done ↦ true | stopped ↦ false ])) e tt
+done_stopped : done ≡ stopped → ⊥
+done_stopped e = subst (λ (f : Finish). T (elim f [ done ↦ true | stopped ↦ false ])) e tt
 
 -- what a run tells fixes its answer
-pub ending-one : (x y : Ending) → endingTells x ≡ endingTells y → x ≡ y
-ending-one Done Done e = refl
-ending-one Stopped Stopped e = refl
-ending-one (Refused j a) (Refused k b) e =
+pub ending_one : (x y : Ending) → ending_tells x ≡ ending_tells y → x ≡ y
+ending_one Done Done e = refl
+ending_one Stopped Stopped e = refl
+ending_one (Refused j a) (Refused k b) e =
     let both = refused-at-one j k a b e in
     ap (λ (n : ℕ). Refused n a) both.0 ∙ ap (Refused k) both.1
-ending-one Done Stopped e = absurd (done-stopped (whole-one done stopped e))
-ending-one Stopped Done e = absurd (done-stopped (sym (whole-one stopped done e)))
-ending-one Done (Refused k i) e = absurd (whole-refused done k i e)
-ending-one Stopped (Refused k i) e = absurd (whole-refused stopped k i e)
-ending-one (Refused k i) Done e = absurd (whole-refused done k i (sym e))
-ending-one (Refused k i) Stopped e = absurd (whole-refused stopped k i (sym e))
+ending_one Done Stopped e = absurd (done_stopped (whole-one done stopped e))
+ending_one Stopped Done e = absurd (done_stopped (sym (whole-one stopped done e)))
+ending_one Done (Refused k i) e = absurd (whole-refused done k i e)
+ending_one Stopped (Refused k i) e = absurd (whole-refused stopped k i e)
+ending_one (Refused k i) Done e = absurd (whole-refused done k i (sym e))
+ending_one (Refused k i) Stopped e = absurd (whole-refused stopped k i (sym e))
 
-pub ran-one : (r s : Ran) → ranTells r ≡ ranTells s → r ≡ s
-ran-one r s e =
+pub ran_one : (r s : Ran) → ran_tells r ≡ ran_tells s → r ≡ s
+ran_one r s e =
     ap (λ (m : Machine). record { machine = m; ending = r.ending; accepted = r.accepted; completed = r.completed }) (ap (λ (x : Summary). x.machine) e)
-    ∙ ap (λ (x : Ending). record { machine = s.machine; ending = x; accepted = r.accepted; completed = r.completed }) (ending-one r.ending s.ending (ap (λ (x : Summary). x.ending) e))
+    ∙ ap (λ (x : Ending). record { machine = s.machine; ending = x; accepted = r.accepted; completed = r.completed }) (ending_one r.ending s.ending (ap (λ (x : Summary). x.ending) e))
     ∙ ap (λ (k : ℕ). record { machine = s.machine; ending = s.ending; accepted = k; completed = r.completed }) (ap (λ (x : Summary). x.accepted) e)
     ∙ ap (λ (k : ℕ). record { machine = s.machine; ending = s.ending; accepted = s.accepted; completed = k }) (ap (λ (x : Summary). x.completed) e)
 
 -- an ending says how the course closed
-ends_as : (m : Machine) (words : List ℕ) (n budget k : ℕ) (close : Tells Finish) (x : Ending) → endingTells x ≡ placed close k → Closes m words n budget close k → Ends m words n budget k x
+ends_as : (m : Machine) (words : List ℕ) (n budget k : ℕ) (close : Tells Finish) (x : Ending) → ending_tells x ≡ placed close k → Closes m words n budget close k → Ends m words n budget k x
 ends_as m words n budget k close Done e h = subst⁻¹ (λ (c : Tells Finish). Closes m words n budget c k) (ap (λ (p : Placed Finish). p.told) e) h
 ends_as m words n budget k close Stopped e h = subst⁻¹ (λ (c : Tells Finish). Closes m words n budget c k) (ap (λ (p : Placed Finish). p.told) e) h
 ends_as m words n budget k close (Refused number index) e h =
@@ -66,70 +66,70 @@ module _ (m : Machine) (words : List ℕ) (budget : ℕ) (before : List ℕ) (r 
   course = run_of m words budget (length before)
 
   abbrev cycles : ℕ
-  cycles = cyclesIn (length words)
+  cycles = cycles_in (length words)
 
   abbrev whole : ℕ
-  whole = startRefusal m words (length before)
+  whole = start_refusal m words (length before)
 
   count : r.accepted ≡ length course.steps
   count = ap (λ (s : Summary). s.accepted) p.answer
 
-  long : length (reportsOf course.steps) ≡ wordsPerReport * r.accepted
-  long = reports-length course.steps ∙ ap (λ (k : ℕ). wordsPerReport * k) (sym count)
+  long : length (reports_of course.steps) ≡ words_per_report * r.accepted
+  long = reports_length course.steps ∙ ap (λ (k : ℕ). words_per_report * k) (sym count)
 
   -- the words of report k stand in what is written
-  report-at : (k : ℕ) → k < r.accepted → take wordsPerReport (drop (wordsPerReport * k) after) ≡ take wordsPerReport (drop (wordsPerReport * k) (reportsOf course.steps))
+  report-at : (k : ℕ) → k < r.accepted → take words_per_report (drop (words_per_report * k) after) ≡ take words_per_report (drop (words_per_report * k) (reports_of course.steps))
   report-at k h =
-      let all = reportsOf course.steps in
+      let all = reports_of course.steps in
       let rest = drop (length all) before in
-      let inside : wordsPerReport * k ≤ length all = omega (arith, long) in
-      let room : wordsPerReport ≤ length (drop (wordsPerReport * k) all) = simp length-drop (omega (arith, long)) in
-      ap (λ (l : List ℕ). take wordsPerReport (drop (wordsPerReport * k) l)) p.written
-      ∙ ap (take wordsPerReport) (drop-append-le (wordsPerReport * k) all rest inside)
-      ∙ take-append-le wordsPerReport (drop (wordsPerReport * k) all) rest room
+      let inside : words_per_report * k ≤ length all = omega (arith, long) in
+      let room : words_per_report ≤ length (drop (words_per_report * k) all) = simp length-drop (omega (arith, long)) in
+      ap (λ (l : List ℕ). take words_per_report (drop (words_per_report * k) l)) p.written
+      ∙ ap (take words_per_report) (drop-append-le (words_per_report * k) all rest inside)
+      ∙ take-append-le words_per_report (drop (words_per_report * k) all) rest room
 
   -- a run that is started is its cycles one after another
   pub cycle-by-cycle : whole ≡ 0 → CycleByCycle m words budget r before after
   cycle-by-cycle z =
-      let same : course ≡ run_from m budget (cyclesFrom words 0 cycles) = started m words budget (length before) z in
-      let counted : r.accepted ≡ length (run_from m budget (cyclesFrom words 0 cycles)).steps = count ∙ ap (λ (c : Course). length c.steps) same in
-      let said : ranTells r ≡ summaryOf m (run_from m budget (cyclesFrom words 0 cycles)) = p.answer ∙ ap (summaryOf m) same in
+      let same : course ≡ run_from m budget (cycles_from words 0 cycles) = started m words budget (length before) z in
+      let counted : r.accepted ≡ length (run_from m budget (cycles_from words 0 cycles)).steps = count ∙ ap (λ (c : Course). length c.steps) same in
+      let said : ran_tells r ≡ summary_of m (run_from m budget (cycles_from words 0 cycles)) = p.answer ∙ ap (summary_of m) same in
       record {
         accepted = λ k h. accepted-turns m words cycles budget k (subst (λ (x : ℕ). k < x) counted h);
         reports = λ k h.
-            report-at k h ∙ ap (λ (c : Course). take wordsPerReport (drop (wordsPerReport * k) (reportsOf c.steps))) same
+            report-at k h ∙ ap (λ (c : Course). take words_per_report (drop (words_per_report * k) (reports_of c.steps))) same
             ∙ report-turns m words cycles budget k (subst (λ (x : ℕ). k < x) counted h);
-        machine = ap (λ (s : Summary). s.machine) said ∙ machine-turns m words cycles budget ∙ ap (machineAt m words) (sym counted);
-        completed = ap (λ (s : Summary). s.completed) said ∙ completed-turns m words cycles budget ∙ ap (completedBefore m words) (sym counted);
+        machine = ap (λ (s : Summary). s.machine) said ∙ machine-turns m words cycles budget ∙ ap (machine_at m words) (sym counted);
+        completed = ap (λ (s : Summary). s.completed) said ∙ completed-turns m words cycles budget ∙ ap (completed_before m words) (sym counted);
         ends =
             subst⁻¹ (λ (k : ℕ). Ends m words cycles budget k r.ending) counted
-            (ends_as m words cycles budget _ (run_from m budget (cyclesFrom words 0 cycles)).close r.ending (ap (λ (s : Summary). s.ending) said) (closes m words cycles budget));
+            (ends_as m words cycles budget _ (run_from m budget (cycles_from words 0 cycles)).close r.ending (ap (λ (s : Summary). s.ending) said) (closes m words cycles budget));
         untouched =
-            ap (drop (wordsPerReport * r.accepted)) p.written
-            ∙ drop_at (reportsOf course.steps) (drop (length (reportsOf course.steps)) before) (wordsPerReport * r.accepted) long
+            ap (drop (words_per_report * r.accepted)) p.written
+            ∙ drop_at (reports_of course.steps) (drop (length (reports_of course.steps)) before) (words_per_report * r.accepted) long
             ∙ ap (λ (x : ℕ). drop x before) long;
       }
 
   -- a run that is refused as a whole gives back its start
   pub returned : (whole ≡ 0 → ⊥) → Returned m whole r before after
   returned n =
-      let c : course ≡ closing (refused whole) = refused-whole m words budget (length before) (ne_eqb whole 0 n) in
-      let said : ranTells r ≡ summaryOf m (closing (refused whole)) = p.answer ∙ ap (summaryOf m) c in
+      let c : course ≡ closing (refused whole) = refused_whole m words budget (length before) (ne_eqb whole 0 n) in
+      let said : ran_tells r ≡ summary_of m (closing (refused whole)) = p.answer ∙ ap (summary_of m) c in
       record {
-        ending = ending-one r.ending (Refused whole 0) (ap (λ (s : Summary). s.ending) said);
+        ending = ending_one r.ending (Refused whole 0) (ap (λ (s : Summary). s.ending) said);
         machine = ap (λ (s : Summary). s.machine) said;
         accepted = ap (λ (s : Summary). s.accepted) said;
         completed = ap (λ (s : Summary). s.completed) said;
-        reports = p.written ∙ ap (λ (d : Course). reportsOf d.steps ++ drop (length (reportsOf d.steps)) before) c;
+        reports = p.written ∙ ap (λ (d : Course). reports_of d.steps ++ drop (length (reports_of d.steps)) before) c;
       }
 
 -- while no cycle is refused, each machine on the way may start
-module _ (m : Machine) (words : List ℕ) (starts : mayStart m.registers.waiting ≡ true) where
-  pub may-go-on : (k : ℕ) → ((l : ℕ) → l < k → (turnAt m words l).answer.number ≡ 0) → mayStart (machineAt m words k).registers.waiting ≡ true
+module _ (m : Machine) (words : List ℕ) (starts : may_start m.registers.waiting ≡ true) where
+  pub may-go-on : (k : ℕ) → ((l : ℕ) → l < k → (turn_at m words l).answer.number ≡ 0) → may_start (machine_at m words k).registers.waiting ≡ true
   may-go-on zero before = starts
-  may-go-on (suc k) before = accepted-may-start (machineAt m words k) (cycleAt words k) (before k (omega arith))
+  may-go-on (suc k) before = accepted-may-start (machine_at m words k) (cycle_at words k) (before k (omega arith))
 
 -- no two outcomes satisfy the statement of `run`: the answers are the same, and the lent reports after the call
-pub run-unique : (m : Machine) (c : Course) (before : List ℕ) (r s : Ran) (after after' : List ℕ)
+pub run_unique : (m : Machine) (c : Course) (before : List ℕ) (r s : Ran) (after after' : List ℕ)
     → Gives m c r before after → Gives m c s before after' → (r ≡ s) × (after ≡ after')
-run-unique m c before r s after after' g h = (ran-one r s (g.answer ∙ sym h.answer), g.written ∙ sym h.written)
+run_unique m c before r s after after' g h = (ran_one r s (g.answer ∙ sym h.answer), g.written ∙ sym h.written)

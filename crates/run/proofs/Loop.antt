@@ -11,17 +11,17 @@ use Rattle.machine.specs.declared.Machine.{Machine}
 use Rattle.machine.specs.declared.Report.{Report}
 use Rattle.machine.specs.declared.Core.{Core}
 use Rattle.machine.specs.declared.Words.{Words}
-use Rattle.machine.specs.Stepping.{machineFrom, core_of}
+use Rattle.machine.specs.Stepping.{machine_from, core_of}
 use Rattle.machine.proofs.Laws.{refused-unchanged}
-use Rattle.machine.specs.Cycles.{Turned, cycleOf, completions}
+use Rattle.machine.specs.Cycles.{Turned, cycle_of, completions}
 use Rattle.run.specs.declared.Ending.{Ending}
 use Rattle.run.specs.declared.Ending.TheVariants.{Done, Stopped, Refused}
 use Rattle.run.specs.declared.Ran.{Ran}
-use Rattle.run.specs.Splitting.{cycleAt, cyclesFrom, reportWords, wordsPerReport}
-use Rattle.run.specs.Courses.{Step, Finish, done, stopped, Course, closing, turnThen, run_from, machineAfter, completedIn, reportsOf, preceded}
-use Rattle.run.specs.Runs.{Summary, placed, summaryOf, endingTells, ranTells, Gives}
+use Rattle.run.specs.Splitting.{cycle_at, cycles_from, report_words, words_per_report}
+use Rattle.run.specs.Courses.{Step, Finish, done, stopped, Course, closing, turn_then, run_from, machine_after, completed_in, reports_of, preceded}
+use Rattle.run.specs.Runs.{Summary, placed, summary_of, ending_tells, ran_tells, Gives}
 use Rattle.run.proofs.Stored.{take-stored, drop-stored}
-use Rattle.run.proofs.Courses.{preceded-more, completions-le, machine-after, completed-in, reports-of, reports-length, runs_on, accepted-then, refused-then}
+use Rattle.run.proofs.Courses.{preceded_more, completions_le, machine_after_lem, completed_in_lem, reports_of_lem, reports_length, runs_on, accepted-then, refused-then}
 
 -- before cycle i: the steps so far, what was counted and written of them, and the run still to come
 pub record Before (words : List ℕ) (budget : ℕ) (start : Machine) (reports₀ : List ℕ) (cycles : ℕ) (reports : List ℕ) (state : Machine) (left completed i : ℕ) : Type 0 where
@@ -29,12 +29,12 @@ pub record Before (words : List ℕ) (budget : ℕ) (start : Machine) (reports�
   pub bound : i ≤ cycles
   pub room : length reports ≡ length reports₀
   pub accepted : length past ≡ i
-  pub counted : completedIn past ≡ completed
+  pub counted : completed_in past ≡ completed
   pub few : completed ≤ i
-  pub reached : machineAfter start past ≡ state
-  pub filled : take (wordsPerReport * i) reports ≡ reportsOf past
-  pub rest : drop (wordsPerReport * i) reports ≡ drop (wordsPerReport * i) reports₀
-  pub course : run_from start budget (cyclesFrom words 0 cycles) ≡ preceded past (run_from state left (cyclesFrom words i (cycles - i)))
+  pub reached : machine_after start past ≡ state
+  pub filled : take (words_per_report * i) reports ≡ reports_of past
+  pub rest : drop (words_per_report * i) reports ≡ drop (words_per_report * i) reports₀
+  pub course : run_from start budget (cycles_from words 0 cycles) ≡ preceded past (run_from state left (cycles_from words i (cycles - i)))
 
 pub begins : (words : List ℕ) (budget : ℕ) (start : Machine) (reports : List ℕ) (cycles : ℕ) → Before words budget start reports cycles reports start budget 0 0
 begins words budget start reports cycles = record {
@@ -49,14 +49,14 @@ begins words budget start reports cycles = record {
   rest = refl;
   course =
       let e : cycles ≡ cycles - 0 = omega arith in
-      ap (λ (n : ℕ). run_from start budget (cyclesFrom words 0 n)) e;
+      ap (λ (n : ℕ). run_from start budget (cycles_from words 0 n)) e;
 }
 
 -- what is left of the run closes at once
 module _ {words : List ℕ} {budget : ℕ} {start : Machine} {reports₀ : List ℕ} {cycles : ℕ} {reports : List ℕ} {state : Machine} {left completed i : ℕ}
-    (b : Before words budget start reports₀ cycles reports state left completed i) (fits : wordsPerReport * cycles ≤ length reports₀) where
+    (b : Before words budget start reports₀ cycles reports state left completed i) (fits : words_per_report * cycles ≤ length reports₀) where
   abbrev whole : Course
-  whole = run_from start budget (cyclesFrom words 0 cycles)
+  whole = run_from start budget (cycles_from words 0 cycles)
 
   abbrev ran : Ending → Ran
   ran ending = record { machine = state; ending = ending; accepted = i; completed = completed }
@@ -64,32 +64,32 @@ module _ {words : List ℕ} {budget : ℕ} {start : Machine} {reports₀ : List 
   abbrev telling : Machine → Tells Finish → ℕ → ℕ → Summary
   telling m close n k = record { machine = m; ending = placed close n; accepted = n; completed = k }
 
-  closes : (close : Tells Finish) (ending : Ending) → endingTells ending ≡ placed close i → whole ≡ preceded b.past (closing close) → Gives start whole (ran ending) reports₀ reports
+  closes : (close : Tells Finish) (ending : Ending) → ending_tells ending ≡ placed close i → whole ≡ preceded b.past (closing close) → Gives start whole (ran ending) reports₀ reports
   closes close ending e w = rw w (record { answer = told; written = left-as-was })
     where
       none_more : b.past ++ [] ≡ b.past
       none_more = append-nil b.past
 
-      told : ranTells (ran ending) ≡ summaryOf start (preceded b.past (closing close))
+      told : ran_tells (ran ending) ≡ summary_of start (preceded b.past (closing close))
       told =
           ap (λ (x : Placed Finish). record { machine = state; ending = x; accepted = i; completed = completed }) e
           ∙ ap (λ (n : ℕ). telling state close n completed) (sym b.accepted)
           ∙ ap (λ (k : ℕ). telling state close (length b.past) k) (sym b.counted)
-          ∙ ap (λ (m : Machine). telling m close (length b.past) (completedIn b.past)) (sym b.reached)
-          ∙ ap (λ (s : List Step). telling (machineAfter start s) close (length s) (completedIn s)) (sym none_more)
+          ∙ ap (λ (m : Machine). telling m close (length b.past) (completed_in b.past)) (sym b.reached)
+          ∙ ap (λ (s : List Step). telling (machine_after start s) close (length s) (completed_in s)) (sym none_more)
 
-      size : length (reportsOf b.past) ≡ wordsPerReport * i
-      size = reports-length b.past ∙ ap (λ (n : ℕ). wordsPerReport * n) b.accepted
+      size : length (reports_of b.past) ≡ words_per_report * i
+      size = reports_length b.past ∙ ap (λ (n : ℕ). words_per_report * n) b.accepted
 
-      left-as-was : reports ≡ reportsOf (b.past ++ []) ++ drop (length (reportsOf (b.past ++ []))) reports₀
-      left-as-was = rw (none_more, size, ← b.filled, ← b.rest) (sym (take-append-drop (wordsPerReport * i) reports))
+      left-as-was : reports ≡ reports_of (b.past ++ []) ++ drop (length (reports_of (b.past ++ []))) reports₀
+      left-as-was = rw (none_more, size, ← b.filled, ← b.rest) (sym (take-append-drop (words_per_report * i) reports))
 
   -- no cycle is left
   pub finishes : cycles ≤ i → Gives start whole (ran Done) reports₀ reports
   unfolding run_from
   finishes h =
       let e : cycles - i ≡ 0 = omega arith in
-      closes (accepted done) Done refl (b.course ∙ ap (λ (n : ℕ). preceded b.past (run_from state left (cyclesFrom words i n))) e)
+      closes (accepted done) Done refl (b.course ∙ ap (λ (n : ℕ). preceded b.past (run_from state left (cycles_from words i n))) e)
 
   -- a cycle is left, and the budget is spent
   pub stops : i < cycles → left ≡ 0 → Gives start whole (ran Stopped) reports₀ reports
@@ -98,63 +98,63 @@ module _ {words : List ℕ} {budget : ℕ} {start : Machine} {reports₀ : List 
       let e : cycles - i ≡ suc (cycles - (i + 1)) = omega arith in
       closes (accepted stopped) Stopped refl
       (b.course
-      ∙ ap (λ (n : ℕ). preceded b.past (run_from state n (cyclesFrom words i (cycles - i)))) z
-      ∙ ap (λ (n : ℕ). preceded b.past (run_from state 0 (cyclesFrom words i n))) e)
+      ∙ ap (λ (n : ℕ). preceded b.past (run_from state n (cycles_from words i (cycles - i)))) z
+      ∙ ap (λ (n : ℕ). preceded b.past (run_from state 0 (cycles_from words i n))) e)
 
   -- cycle i is judged
-  module _ (h : i < cycles) (more : left ≡ 0 → ⊥) (x : Turned) (p : x ≡ cycleOf state (cycleAt words i)) where
+  module _ (h : i < cycles) (more : left ≡ 0 → ⊥) (x : Turned) (p : x ≡ cycle_of state (cycle_at words i)) where
     abbrev next : Course
-    next = run_from x.machine (left - 1) (cyclesFrom words (i + 1) (cycles - (i + 1)))
+    next = run_from x.machine (left - 1) (cycles_from words (i + 1) (cycles - (i + 1)))
 
-    answered : whole ≡ preceded b.past (turnThen x.answer x.machine next)
+    answered : whole ≡ preceded b.past (turn_then x.answer x.machine next)
     answered =
         b.course
         ∙ ap (preceded b.past) (runs_on state left words i cycles h more
-        ∙ ap (λ (x : Turned). turnThen x.answer x.machine (run_from x.machine (left - 1) (cyclesFrom words (i + 1) (cycles - (i + 1))))) (sym p))
+        ∙ ap (λ (x : Turned). turn_then x.answer x.machine (run_from x.machine (left - 1) (cycles_from words (i + 1) (cycles - (i + 1))))) (sym p))
 
     pub refuses : (k : ℕ) → x.answer ≡ refused k
         → Gives start whole (record { machine = x.machine; ending = Refused k i; accepted = i; completed = completed }) reports₀ reports
     refuses k e =
-        let kept : state ≡ x.machine = sym (ap (λ (x : Turned). x.machine) p ∙ refused-unchanged state (cycleAt words i) k (ap (λ (x : Turned). x.answer) (sym p) ∙ e)) in
+        let kept : state ≡ x.machine = sym (ap (λ (x : Turned). x.machine) p ∙ refused-unchanged state (cycle_at words i) k (ap (λ (x : Turned). x.answer) (sym p) ∙ e)) in
         subst (λ (m : Machine). Gives start whole (record { machine = m; ending = Refused k i; accepted = i; completed = completed }) reports₀ reports) kept
         (closes (refused k) (Refused k i) refl (answered ∙ ap (preceded b.past) (refused-then x.machine next x.answer k e)))
 
-    pub again : (r : Report) (reports' : List ℕ) → x.answer ≡ accepted r → reports' ≡ sets reports (wordsPerReport * i) (reportWords r)
+    pub again : (r : Report) (reports' : List ℕ) → x.answer ≡ accepted r → reports' ≡ sets reports (words_per_report * i) (report_words r)
         → Before words budget start reports₀ cycles reports' x.machine (left - 1) (completed + completions r.completed) (i + 1)
     again r reports' e q = record {
       past = b.past ++ step ∷ [];
       bound = omega arith;
-      room = rw q (length-sets reports (wordsPerReport * i) (reportWords r) ∙ b.room);
+      room = rw q (length-sets reports (words_per_report * i) (report_words r) ∙ b.room);
       accepted = length-append b.past (step ∷ []) ∙ ap (λ (n : ℕ). n + 1) b.accepted;
       counted =
-          completed-in b.past (step ∷ [])
+          completed_in_lem b.past (step ∷ [])
           ∙ ap (λ (k : ℕ). k + (completions r.completed + 0)) b.counted
           ∙ ap (λ (k : ℕ). completed + k) (add-zero (completions r.completed));
-      few = omega (arith, completions-le r.completed, b.few);
-      reached = machine-after start b.past (step ∷ []);
+      few = omega (arith, completions_le r.completed, b.few);
+      reached = machine_after_lem start b.past (step ∷ []);
       filled =
-          rw q (take-stored reports (reportWords r) (wordsPerReport * i) (wordsPerReport * (i + 1)) (omega arith) (omega (arith, b.room)))
-          ∙ ap (λ (l : List ℕ). l ++ reportWords r) b.filled
-          ∙ sym (reports-of b.past (step ∷ []) ∙ ap (λ (l : List ℕ). reportsOf b.past ++ l) (append-nil (reportWords r)));
+          rw q (take-stored reports (report_words r) (words_per_report * i) (words_per_report * (i + 1)) (omega arith) (omega (arith, b.room)))
+          ∙ ap (λ (l : List ℕ). l ++ report_words r) b.filled
+          ∙ sym (reports_of_lem b.past (step ∷ []) ∙ ap (λ (l : List ℕ). reports_of b.past ++ l) (append-nil (report_words r)));
       rest =
-          rw q (drop-stored reports (reportWords r) (wordsPerReport * i) (wordsPerReport * (i + 1)) (omega arith) (omega (arith, b.room)))
-          ∙ further reports ∙ ap (drop wordsPerReport) b.rest ∙ sym (further reports₀);
+          rw q (drop-stored reports (report_words r) (words_per_report * i) (words_per_report * (i + 1)) (omega arith) (omega (arith, b.room)))
+          ∙ further reports ∙ ap (drop words_per_report) b.rest ∙ sym (further reports₀);
       course =
           answered
           ∙ ap (preceded b.past) (accepted-then x.machine next x.answer r e)
-          ∙ preceded-more b.past (step ∷ []) next;
+          ∙ preceded_more b.past (step ∷ []) next;
     }
       where
         step : Step
         step = record { machine = x.machine; report = r }
 
-        further : (l : List ℕ) → drop (wordsPerReport * (i + 1)) l ≡ drop wordsPerReport (drop (wordsPerReport * i) l)
+        further : (l : List ℕ) → drop (words_per_report * (i + 1)) l ≡ drop words_per_report (drop (words_per_report * i) l)
         further l =
-            let g : wordsPerReport * (i + 1) ≡ wordsPerReport * i + wordsPerReport = omega arith in
-            ap (λ (j : ℕ). drop j l) g ∙ sym (drop-drop wordsPerReport (wordsPerReport * i) l)
+            let g : words_per_report * (i + 1) ≡ words_per_report * i + words_per_report = omega arith in
+            ap (λ (j : ℕ). drop j l) g ∙ sym (drop-drop words_per_report (words_per_report * i) l)
 
 -- a run from a machine's RAM and core is one from the machine
 pub from_parts : (m : Machine) (k : Core) → k ≡ core_of m.registers → (budget : ℕ) (cs : List Words) (r : Ran) (x y : List ℕ)
-    → Gives (machineFrom m.registers.ram k) (run_from (machineFrom m.registers.ram k) budget cs) r x y → Gives m (run_from m budget cs) r x y
+    → Gives (machine_from m.registers.ram k) (run_from (machine_from m.registers.ram k) budget cs) r x y → Gives m (run_from m budget cs) r x y
 from_parts m k e budget cs r x y g =
-    subst (λ (k : Core). Gives (machineFrom m.registers.ram k) (run_from (machineFrom m.registers.ram k) budget cs) r x y) e g
+    subst (λ (k : Core). Gives (machine_from m.registers.ram k) (run_from (machine_from m.registers.ram k) budget cs) r x y) e g

@@ -14,49 +14,49 @@ use Rattle.choice.proofs.Checks.{positive, cleared, exactly}
 use Rattle.choice.proofs.Picks.{picked, unpicked}
 use Rattle.machine.specs.declared.Waiting.{Waiting}
 use Rattle.machine.specs.declared.Machine.{Machine}
-use Rattle.machine.specs.Judging.{mayStart}
-use Rattle.run.specs.Splitting.{wordsPerCycle, cyclesIn, cyclesOf, wordsPerReport}
+use Rattle.machine.specs.Judging.{may_start}
+use Rattle.run.specs.Splitting.{words_per_cycle, cycles_in, cycles_of, words_per_report}
 use Rattle.run.specs.Courses.{closing, run_from}
-use Rattle.run.specs.Runs.{mostCycles, startChecks, startRefusal, run_of}
+use Rattle.run.specs.Runs.{most_cycles, start_checks, start_refusal, run_of}
 
 -- by the word that waits, the number of words and the room
 module _ (waiting : Waiting) (words room : ℕ) where
   abbrev uneven : Bool
-  uneven = not (eqb (words % wordsPerCycle) 0)
+  uneven = not (eqb (words % words_per_cycle) 0)
 
   abbrev many : Bool
-  many = ltb mostCycles (cyclesIn words)
+  many = ltb most_cycles (cycles_in words)
 
   abbrev short : Bool
-  short = ltb room (wordsPerReport * cyclesIn words)
+  short = ltb room (words_per_report * cycles_in words)
 
   abbrev unfit : Bool
-  unfit = not (mayStart waiting)
+  unfit = not (may_start waiting)
 
   abbrev given : ℕ
-  given = refusal (startChecks waiting words room)
+  given = refusal (start_checks waiting words room)
 
   -- a run that is not refused as a whole: whole cycles, not too many, and room for all their reports
-  pub starts : given ≡ 0 → (cyclesIn words * wordsPerCycle ≡ words) × (cyclesIn words ≤ mostCycles) × (wordsPerReport * cyclesIn words ≤ room)
+  pub starts : given ≡ 0 → (cycles_in words * words_per_cycle ≡ words) × (cycles_in words ≤ most_cycles) × (words_per_report * cycles_in words ≤ room)
   starts e =
       let one = cleared 1 uneven (check 2 many ∷ check 3 short ∷ check 4 unfit ∷ []) (positive 1 tt) e in
       let two = cleared 2 many (check 3 short ∷ check 4 unfit ∷ []) (positive 2 tt) one.1 in
       let three = cleared 3 short (check 4 unfit ∷ []) (positive 3 tt) two.1 in
-      let even : words % wordsPerCycle ≡ 0 = eqb-true (words % wordsPerCycle) 0 (not-false (eqb (words % wordsPerCycle) 0) one.0) in
-      (omega (arith, even), ltb-false mostCycles (cyclesIn words) two.0, ltb-false room (wordsPerReport * cyclesIn words) three.0)
+      let even : words % words_per_cycle ≡ 0 = eqb-true (words % words_per_cycle) 0 (not-false (eqb (words % words_per_cycle) 0) one.0) in
+      (omega (arith, even), ltb-false most_cycles (cycles_in words) two.0, ltb-false room (words_per_report * cycles_in words) three.0)
 
   -- and a word that waits may do so
-  pub may-begin : given ≡ 0 → mayStart waiting ≡ true
+  pub may-begin : given ≡ 0 → may_start waiting ≡ true
   may-begin e =
       let one = cleared 1 uneven (check 2 many ∷ check 3 short ∷ check 4 unfit ∷ []) (positive 1 tt) e in
       let two = cleared 2 many (check 3 short ∷ check 4 unfit ∷ []) (positive 2 tt) one.1 in
       let three = cleared 3 short (check 4 unfit ∷ []) (positive 3 tt) two.1 in
-      not-false (mayStart waiting) (cleared 4 unfit [] (positive 4 tt) three.1).0
+      not-false (may_start waiting) (cleared 4 unfit [] (positive 4 tt) three.1).0
 
   -- and where all that holds, none is given
-  pub clear-start : words % wordsPerCycle ≡ 0 → cyclesIn words ≤ mostCycles → wordsPerReport * cyclesIn words ≤ room → mayStart waiting ≡ true → given ≡ 0
+  pub clear-start : words % words_per_cycle ≡ 0 → cycles_in words ≤ most_cycles → words_per_report * cycles_in words ≤ room → may_start waiting ≡ true → given ≡ 0
   clear-start even few fits may =
-      rw (eq-eqb (words % wordsPerCycle) 0 even, le-ltb mostCycles (cyclesIn words) few, le-ltb room (wordsPerReport * cyclesIn words) fits, may)
+      rw (eq-eqb (words % words_per_cycle) 0 even, le-ltb most_cycles (cycles_in words) few, le-ltb room (words_per_report * cycles_in words) fits, may)
 
   -- 1: the words are no multiple of 3
   pub start-one : (given ≡ 1) ↔ (Unit {0} × (uneven ≡ true))
@@ -75,10 +75,10 @@ module _ (waiting : Waiting) (words room : ℕ) where
   start-four = exactly 4 unfit [] (positive 4 tt) tt (check 1 uneven ∷ check 2 many ∷ check 3 short ∷ []) tt
 
 -- a run that is started, and one that is refused as a whole
-pub started : (m : Machine) (words : List ℕ) (budget room : ℕ) → startRefusal m words room ≡ 0 → run_of m words budget room ≡ run_from m budget (cyclesOf words)
+pub started : (m : Machine) (words : List ℕ) (budget room : ℕ) → start_refusal m words room ≡ 0 → run_of m words budget room ≡ run_from m budget (cycles_of words)
 unfolding run_of
-started m words budget room e = picked (eqb (startRefusal m words room) 0) (run_from m budget (cyclesOf words)) (closing (refused (startRefusal m words room))) (eq-eqb (startRefusal m words room) 0 e)
+started m words budget room e = picked (eqb (start_refusal m words room) 0) (run_from m budget (cycles_of words)) (closing (refused (start_refusal m words room))) (eq-eqb (start_refusal m words room) 0 e)
 
-pub refused-whole : (m : Machine) (words : List ℕ) (budget room : ℕ) → eqb (startRefusal m words room) 0 ≡ false → run_of m words budget room ≡ closing (refused (startRefusal m words room))
+pub refused_whole : (m : Machine) (words : List ℕ) (budget room : ℕ) → eqb (start_refusal m words room) 0 ≡ false → run_of m words budget room ≡ closing (refused (start_refusal m words room))
 unfolding run_of
-refused-whole m words budget room e = unpicked (eqb (startRefusal m words room) 0) (run_from m budget (cyclesOf words)) (closing (refused (startRefusal m words room))) e
+refused_whole m words budget room e = unpicked (eqb (start_refusal m words room) 0) (run_from m budget (cycles_of words)) (closing (refused (start_refusal m words room))) e

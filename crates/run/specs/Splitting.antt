@@ -4,37 +4,37 @@ use Rattle.machine.specs.declared.Words.{Words}
 use Rattle.machine.specs.declared.Report.{Report}
 
 -- a cycle is three words (document 01, the machine and one cycle)
-abbrev pub wordsPerCycle : ℕ
-wordsPerCycle = 3
+abbrev pub words_per_cycle : ℕ
+words_per_cycle = 3
 
 -- cycle i of the words
-abbrev pub cycleAt : List ℕ → ℕ → Words
-cycleAt words i = record {
-  lines = get_or words (wordsPerCycle * i) 0;
-  input = get_or words (wordsPerCycle * i + 1) 0;
-  pins = get_or words (wordsPerCycle * i + 2) 0;
+abbrev pub cycle_at : List ℕ → ℕ → Words
+cycle_at words i = record {
+  lines = get_or words (words_per_cycle * i) 0;
+  input = get_or words (words_per_cycle * i + 1) 0;
+  pins = get_or words (words_per_cycle * i + 2) 0;
 }
 
 -- n cycles, from cycle i on
-abbrev pub cyclesFrom : List ℕ → ℕ → ℕ → List Words
-cyclesFrom words i zero = []
-cyclesFrom words i (suc n) = cycleAt words i ∷ cyclesFrom words (i + 1) n
+abbrev pub cycles_from : List ℕ → ℕ → ℕ → List Words
+cycles_from words i zero = []
+cycles_from words i (suc n) = cycle_at words i ∷ cycles_from words (i + 1) n
 
 -- how many whole cycles a number of words has
-abbrev pub cyclesIn : ℕ → ℕ
-cyclesIn n = n / wordsPerCycle
+abbrev pub cycles_in : ℕ → ℕ
+cycles_in n = n / words_per_cycle
 
-abbrev pub cyclesOf : List ℕ → List Words
-cyclesOf words = cyclesFrom words 0 (cyclesIn (length words))
+abbrev pub cycles_of : List ℕ → List Words
+cycles_of words = cycles_from words 0 (cycles_in (length words))
 
 -- the words of some cycles, one after another
-abbrev pub cycleWords : List Words → List ℕ
-cycleWords [] = []
-cycleWords (c ∷ cycles) = c.lines ∷ c.input ∷ c.pins ∷ cycleWords cycles
+abbrev pub cycle_words : List Words → List ℕ
+cycle_words [] = []
+cycle_words (c ∷ cycles) = c.lines ∷ c.input ∷ c.pins ∷ cycle_words cycles
 
 -- a report is four words
-abbrev pub wordsPerReport : ℕ
-wordsPerReport = 4
+abbrev pub words_per_report : ℕ
+words_per_report = 4
 
-abbrev pub reportWords : Report → List ℕ
-reportWords r = r.y ∷ r.mask ∷ r.ct ∷ r.t ∷ []
+abbrev pub report_words : Report → List ℕ
+report_words r = r.y ∷ r.mask ∷ r.ct ∷ r.t ∷ []

@@ -1,12 +1,14 @@
 // A run of the machine: cycles from a lent slice of words, reports into a lent slice, and one answer.
+#![tactic(auto)]
+
 ghost use Rattle.std.specs.Prelude.{◌≡◌, ◌+◌, ◌*◌, ◌/◌, ◌≤◌, ◌<◌, length};
 ghost use Rattle.std.proofs.lemmas.List.Edits.{sets};
 ghost use Rattle.choice.specs.Checks.{refusal};
 ghost use Rattle.machine.specs.Cycles.{completions};
-ghost use Rattle.machine.specs.Stepping.{machineFrom, reportIn};
-ghost use Rattle.run.specs.Splitting.{wordsPerCycle, wordsPerReport, cycleAt, cyclesIn, cyclesOf, reportWords};
+ghost use Rattle.machine.specs.Stepping.{machine_from, report_in};
+ghost use Rattle.run.specs.Splitting.{words_per_cycle, words_per_report, cycle_at, cycles_in, cycles_of, report_words};
 ghost use Rattle.run.specs.Courses.{run_from};
-ghost use Rattle.run.specs.Runs.{mostCycles, startChecks, run_of, zeroMachine, fullBudget, Gives};
+ghost use Rattle.run.specs.Runs.{most_cycles, start_checks, run_of, zero_machine, full_budget, Gives};
 
 use machine::{Core, Machine, Registers, Stepped, Waiting, Words};
 
@@ -22,14 +24,14 @@ pub const MOST_CYCLES: usize = 4096;
 const FULL_BUDGET: u64 = 4096;
 
 // How a run ends. A refusal has its number, and the index of the cycle or 0.
-#[derive(Drop)]
+#[derive(Clone, Copy)]
 pub enum Ending {
     Done,
     Stopped,
     Refused(u8, usize),
 }
 
-#[derive(Drop)]
+#[derive(Clone, Copy)]
 pub struct Ran {
     pub machine: Machine,
     pub ending: Ending,
@@ -39,7 +41,7 @@ pub struct Ran {
 
 // The number of the refusal of a whole run, or 0.
 fn start_refusal(waiting: Waiting, words: usize, room: usize) -> u8
-    ensures { result ≡ refusal (startChecks waiting words room) }
+    ensures { result ≡ refusal (start_checks waiting words room) }
 {
     if words % WORDS_PER_CYCLE != 0 {
         return 1;
@@ -56,8 +58,8 @@ fn start_refusal(waiting: Waiting, words: usize, room: usize) -> u8
 
 // Cycle i of the words.
 fn cycle_at(words: &[u16], i: usize) -> Words
-    requires { wordsPerCycle * i + wordsPerCycle ≤ length words.now }
-    ensures { result ≡ cycleAt words.now i }
+    requires { words_per_cycle * i + words_per_cycle ≤ length words.now }
+    ensures { result ≡ cycle_at words.now i }
 {
     let at = WORDS_PER_CYCLE * i;
     Words {
@@ -69,8 +71,8 @@ fn cycle_at(words: &[u16], i: usize) -> Words
 
 // The report of cycle i, in its place.
 fn put(reports: &mut [u16], i: usize, stepped: Stepped)
-    requires { wordsPerReport * i + wordsPerReport ≤ length reports.old }
-    ensures { reports.new ≡ sets reports.old (wordsPerReport * i) (reportWords (reportIn stepped)) }
+    requires { words_per_report * i + words_per_report ≤ length reports.old }
+    ensures { reports.new ≡ sets reports.old (words_per_report * i) (report_words (report_in stepped)) }
 {
     let at = WORDS_PER_REPORT * i;
     reports[at] = stepped.y;
@@ -81,13 +83,13 @@ fn put(reports: &mut [u16], i: usize, stepped: Stepped)
 
 // A waiting cycle completes no instruction.
 fn instructions(stepped: Stepped) -> usize
-    ensures { result ≡ completions (reportIn stepped).completed }
+    ensures { result ≡ completions (report_in stepped).completed }
 {
     if stepped.begins { 0 } else { 1 }
 }
 
 fn ended(ram: [u16; 32], core: Core, ending: Ending, accepted: usize, completed: usize) -> Ran
-    ensures { result ≡ record { machine = machineFrom ram core; ending = ending; accepted = accepted; completed = completed } }
+    ensures { result ≡ record { machine = machine_from ram core; ending = ending; accepted = accepted; completed = completed } }
 {
     let machine = machine::machine_from(ram, core);
     Ran {
@@ -100,8 +102,8 @@ fn ended(ram: [u16; 32], core: Core, ending: Ending, accepted: usize, completed:
 
 // The cycles one after another, once the run as a whole is accepted. RAM stays in its place, and each step writes into it.
 fn run_cycles(ram: [u16; 32], core: Core, words: &[u16], budget: u64, reports: &mut [u16]) -> Ran
-    requires { (cyclesIn (length words.now) * wordsPerCycle ≡ length words.now) × (cyclesIn (length words.now) ≤ mostCycles) × (wordsPerReport * cyclesIn (length words.now) ≤ length reports.old) }
-    ensures { Gives (machineFrom ram core) (run_from (machineFrom ram core) budget (cyclesOf words.now)) result reports.old reports.new }
+    requires { (cycles_in (length words.now) * words_per_cycle ≡ length words.now) × (cycles_in (length words.now) ≤ most_cycles) × (words_per_report * cycles_in (length words.now) ≤ length reports.old) }
+    ensures { Gives (machine_from ram core) (run_from (machine_from ram core) budget (cycles_of words.now)) result reports.old reports.new }
 {
     let cycles = words.len() / WORDS_PER_CYCLE;
     let mut ram = ram;
@@ -143,7 +145,7 @@ pub fn run(machine: Machine, words: &[u16], budget: u64, reports: &mut [u16]) ->
 }
 
 fn all_zero() -> Machine
-    ensures { result ≡ zeroMachine }
+    ensures { result ≡ zero_machine }
 {
     let registers = Registers {
         ram: [0; 32],
@@ -159,7 +161,7 @@ fn all_zero() -> Machine
 
 // The run that a program makes of a trace: from all zero, with budget for every cycle.
 pub fn run_from_zero(words: &[u16], reports: &mut [u16]) -> Ran
-    ensures { Gives zeroMachine (run_of zeroMachine words.now fullBudget (length reports.old)) result reports.old reports.new }
+    ensures { Gives zero_machine (run_of zero_machine words.now full_budget (length reports.old)) result reports.old reports.new }
 {
     run(all_zero(), words, FULL_BUDGET, reports)
 }

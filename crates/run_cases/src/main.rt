@@ -1,5 +1,7 @@
 // Reads whole runs on standard input and prints what each does: its reports, the state it ends in, its answer, and what it left alone.
 // A case is a header line (waiting word, ACC, D, status, budget, room, how many words, how many lines) and its pattern lines, in hex.
+#![tactic(auto)]
+
 ghost use Rattle.std.specs.Prelude.{◌+◌, ◌<◌, ◌≤◌, length};
 
 use libc::{STDIN_FILENO, STDOUT_FILENO};

@@ -14,10 +14,10 @@ use Rattle.text.specs.declared.Move.{Move}
 use Rattle.text.specs.declared.Reader.{Reader}
 use Rattle.text.specs.declared.Fault.{Fault}
 use Rattle.text.specs.declared.Stop.{Stop}
-use Rattle.text.specs.Taking.{passed, keptWord, withWord, withFault, faultAt, Took, stopsAt, move_at, metBy, takeFrom}
+use Rattle.text.specs.Taking.{passed, kept_word, with_word, with_fault, fault_at, Took, stops_at, move_at, met_by, take_from}
 
-pub length-kept : (at x : ℕ) (words : List ℕ) → length (keptWord at x words) ≡ length words
-length-kept at x words = by-test (ltb at (length words))
+pub length_kept : (at x : ℕ) (words : List ℕ) → length (kept_word at x words) ≡ length words
+length_kept at x words = by-test (ltb at (length words))
   where
     by-test : (b : Bool) → length (pick b (set words at x) words) ≡ length words
     by-test true = length-set words at x
@@ -31,37 +31,37 @@ module _ (text : List ℕ) (i : ℕ) (h : i < length text) (s : Reader) (words :
   next = passed s (move_at s b) b
 
   abbrev nothing : Took
-  nothing = takeFrom (suc i) next (drop (suc i) text) words
+  nothing = take_from (suc i) next (drop (suc i) text) words
 
   abbrev word : ℕ → Took
-  word x = takeFrom (suc i) (withWord next (length words)) (drop (suc i) text) (keptWord s.found x words)
+  word x = take_from (suc i) (with_word next (length words)) (drop (suc i) text) (kept_word s.found x words)
 
   abbrev fault : Expected → Took
-  fault e = stopsAt (withFault next) (suc i) (Stop.Bad (faultAt s e)) words
+  fault e = stops_at (with_fault next) (suc i) (Stop.Bad (fault_at s e)) words
 
-  opened : takeFrom i s (drop i text) words ≡ metBy (move_at s b).met nothing word fault
-  unfolding takeFrom
+  opened : take_from i s (drop i text) words ≡ met_by (move_at s b).met nothing word fault
+  unfolding take_from
   opened = rw (drop-cons text i 0 h)
 
   -- by the move that was found, and the reader after it
   module _ (m : Move) (em : m ≡ move_at s b) (n : Reader) (en : n ≡ passed s m b) where
-    turn : (x : Met) → m.met ≡ x → metBy x nothing word fault ≡ takeFrom i s (drop i text) words
-    turn x q = sym (opened ∙ ap (λ (y : Met). metBy y nothing word fault) (sym (ap (λ (k : Move). k.met) em) ∙ q))
+    turn : (x : Met) → m.met ≡ x → met_by x nothing word fault ≡ take_from i s (drop i text) words
+    turn x q = sym (opened ∙ ap (λ (y : Met). met_by y nothing word fault) (sym (ap (λ (k : Move). k.met) em) ∙ q))
 
     is-next : n ≡ next
     is-next = en ∙ ap (λ (k : Move). passed s k b) em
 
-    pub turn-nothing : m.met ≡ Met.Nothing → takeFrom (suc i) n (drop (suc i) text) words ≡ takeFrom i s (drop i text) words
+    pub turn-nothing : m.met ≡ Met.Nothing → take_from (suc i) n (drop (suc i) text) words ≡ take_from i s (drop i text) words
     turn-nothing q = rw is-next (turn Met.Nothing q)
 
-    pub turn-word : (x : ℕ) (after : List ℕ) (r : Reader) → m.met ≡ Met.Word x → after ≡ keptWord s.found x words → r ≡ withWord n (length after)
-        → takeFrom (suc i) r (drop (suc i) text) after ≡ takeFrom i s (drop i text) words
-    turn-word x after r q ea er = rw (er, ea, length-kept s.found x words, is-next) (turn (Met.Word x) q)
+    pub turn-word : (x : ℕ) (after : List ℕ) (r : Reader) → m.met ≡ Met.Word x → after ≡ kept_word s.found x words → r ≡ with_word n (length after)
+        → take_from (suc i) r (drop (suc i) text) after ≡ take_from i s (drop i text) words
+    turn-word x after r q ea er = rw (er, ea, length_kept s.found x words, is-next) (turn (Met.Word x) q)
 
-    pub turn-fault : (e : Expected) (f : Fault) (r : Reader) → m.met ≡ Met.Fault e → f ≡ faultAt s e → r ≡ withFault n
-        → stopsAt r (i + 1) (Stop.Bad f) words ≡ takeFrom i s (drop i text) words
+    pub turn-fault : (e : Expected) (f : Fault) (r : Reader) → m.met ≡ Met.Fault e → f ≡ fault_at s e → r ≡ with_fault n
+        → stops_at r (i + 1) (Stop.Bad f) words ≡ take_from i s (drop i text) words
     turn-fault e f r q ef er = rw (add-one, er, ef, is-next) (turn (Met.Fault e) q)
 
-pub turn_end : (text : List ℕ) (i : ℕ) (s : Reader) (words : List ℕ) → length text ≤ i → stopsAt s i Stop.TextEnd words ≡ takeFrom i s (drop i text) words
-unfolding takeFrom
+pub turn_end : (text : List ℕ) (i : ℕ) (s : Reader) (words : List ℕ) → length text ≤ i → stops_at s i Stop.TextEnd words ≡ take_from i s (drop i text) words
+unfolding take_from
 turn_end text i s words h = rw (drop_of_length-le text h)

@@ -5,31 +5,31 @@ use Rattle.text.specs.declared.Kind.{Kind}
 use Rattle.text.specs.declared.Kind.TheVariants.{Over, Blank, Digit, Other}
 
 -- a line feed ends a line, and "#" begins a comment
-abbrev pub lineFeed : ℕ
-lineFeed = 10
+abbrev pub line_feed : ℕ
+line_feed = 10
 
-abbrev pub commentSign : ℕ
-commentSign = 35
+abbrev pub comment_sign : ℕ
+comment_sign = 35
 
 -- a space, a tab or a carriage return
-abbrev pub isBlank : ℕ → Bool
-isBlank b = pick (eqb b 32) true (pick (eqb b 9) true (eqb b 13))
+abbrev pub is_blank : ℕ → Bool
+is_blank b = pick (eqb b 32) true (pick (eqb b 9) true (eqb b 13))
 
 -- b is a byte from `first` to `last`
 abbrev pub among : ℕ → ℕ → ℕ → Bool
 among first last b = pick (leb first b) (leb b last) false
 
--- what a hex digit is worth, small or capital ("0" is 48, "A" 65, "a" 97); `noDigit` for any other byte
-abbrev pub noDigit : ℕ
-noDigit = 16
+-- what a hex digit is worth, small or capital ("0" is 48, "A" 65, "a" 97); `no_digit` for any other byte
+abbrev pub no_digit : ℕ
+no_digit = 16
 
-unfoldable pub digitValue : ℕ → ℕ
-digitValue b = pick (among 48 57 b) (b - 48) (pick (among 65 70 b) (b - 55) (pick (among 97 102 b) (b - 87) noDigit))
+unfoldable pub digit_value : ℕ → ℕ
+digit_value b = pick (among 48 57 b) (b - 48) (pick (among 65 70 b) (b - 55) (pick (among 97 102 b) (b - 87) no_digit))
 
 -- what a byte is in a line, whose words are over at its end and where a comment begins
 unfoldable pub kind_of : ℕ → Kind
 kind_of b =
-    pick (eqb b lineFeed) Over
-    (pick (eqb b commentSign) Over
-    (pick (isBlank b) Blank
-    (pick (ltb (digitValue b) noDigit) (Digit (digitValue b)) Other)))
+    pick (eqb b line_feed) Over
+    (pick (eqb b comment_sign) Over
+    (pick (is_blank b) Blank
+    (pick (ltb (digit_value b) no_digit) (Digit (digit_value b)) Other)))

@@ -1,11 +1,11 @@
 // What a byte of the text is.
 ghost use Rattle.std.specs.Prelude.{◌≡◌};
-ghost use Rattle.text.specs.Bytes.{isBlank, digitValue, kind_of};
+ghost use Rattle.text.specs.Bytes.{is_blank, digit_value, kind_of};
 
 use crate::Kind;
 
 fn is_blank(byte: u8) -> bool
-    ensures { result ≡ isBlank byte }
+    ensures { result ≡ is_blank byte }
 {
     if byte == b' ' {
         return true;
@@ -18,7 +18,7 @@ fn is_blank(byte: u8) -> bool
 
 // What a hex digit is worth, or 16.
 fn digit_value(byte: u8) -> u8
-    ensures { result ≡ digitValue byte }
+    ensures { result ≡ digit_value byte }
 {
     match byte {
         b'0'..=b'9' => byte - 48,

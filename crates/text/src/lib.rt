@@ -1,10 +1,12 @@
 // The words of a text: three words of four hex digits on a line, with blanks between, "#" before a comment, and lines without a word
 // passed over. A text may come in pieces of any length.
+#![tactic(auto)]
+
 mod bytes; // bytes.rt: what a byte is
 mod line; // line.rt: what a byte does to a line
 
 ghost use Rattle.std.specs.Prelude.{◌≡◌};
-ghost use Rattle.text.specs.Taking.{start_of, oneMore, keptWord, passed as specs·passed, withWord, withFault, faultAt, Takes};
+ghost use Rattle.text.specs.Taking.{start_of, one_more, kept_word, passed, with_word, with_fault, fault_at, Takes};
 
 use bytes::kind_of;
 use line::move_of;
@@ -13,7 +15,7 @@ use line::move_of;
 pub const WORDS_PER_LINE: usize = 3;
 
 // What a byte is in a line: its words are over, a blank, a hex digit, or anything else.
-#[derive(Drop)]
+#[derive(Clone, Copy)]
 pub(crate) enum Kind {
     Over,
     Blank,
@@ -22,7 +24,7 @@ pub(crate) enum Kind {
 }
 
 // What was expected where a fault is.
-#[derive(Drop)]
+#[derive(Clone, Copy)]
 pub enum Expected {
     Digit,
     Blank,
@@ -31,7 +33,7 @@ pub enum Expected {
 }
 
 // Where a reader stands in a line: between words, within one (its digits and value so far), right after one, or in what is passed over.
-#[derive(Drop)]
+#[derive(Clone, Copy)]
 pub enum Place {
     Between,
     Within(u8, u16),
@@ -40,7 +42,7 @@ pub enum Place {
 }
 
 // What a byte brings: nothing yet, a whole word, or a fault.
-#[derive(Drop)]
+#[derive(Clone, Copy)]
 pub(crate) enum Met {
     Nothing,
     Word(u16),
@@ -48,7 +50,7 @@ pub(crate) enum Met {
 }
 
 // The place after a byte, how many words of the line are read, and what the byte brought.
-#[derive(Drop)]
+#[derive(Clone, Copy)]
 pub(crate) struct Move {
     pub(crate) place: Place,
     pub(crate) words: usize,
@@ -57,7 +59,7 @@ pub(crate) struct Move {
 
 // A reader between two bytes: the line and the column of the next one, the line's words so far, the place in it; how many words of the
 // text are kept, and how many of its lines are bad.
-#[derive(Drop)]
+#[derive(Clone, Copy)]
 pub struct Reader {
     pub line: u64,
     pub column: u64,
@@ -68,7 +70,7 @@ pub struct Reader {
 }
 
 // A line that cannot be read: its number, the column of the byte that does not fit, and what was expected there.
-#[derive(Drop)]
+#[derive(Clone, Copy)]
 pub struct Fault {
     pub line: u64,
     pub column: u64,
@@ -76,14 +78,14 @@ pub struct Fault {
 }
 
 // Why a reader stopped: the text, or the piece of it, is at its end; or a line is bad.
-#[derive(Drop)]
+#[derive(Clone, Copy)]
 pub enum Stop {
     TextEnd,
     Bad(Fault),
 }
 
 // The reader after some bytes of a text, how many they are, and why it stopped.
-#[derive(Drop)]
+#[derive(Clone, Copy)]
 pub struct Taken {
     pub reader: Reader,
     pub bytes: usize,
@@ -105,14 +107,14 @@ pub fn start() -> Reader
 }
 
 fn one_more(x: u64) -> u64
-    ensures { result ≡ oneMore x }
+    ensures { result ≡ one_more x }
 {
     if x < u64::MAX { x + 1 } else { x }
 }
 
 // The reader after a byte.
 fn passed(reader: Reader, step: Move, byte: u8) -> Reader
-    ensures { result ≡ specs·passed reader step byte }
+    ensures { result ≡ passed reader step byte }
 {
     if byte == b'\n' {
         return Reader {
@@ -136,7 +138,7 @@ fn passed(reader: Reader, step: Move, byte: u8) -> Reader
 }
 
 fn with_word(reader: Reader, room: usize) -> Reader
-    ensures { result ≡ withWord reader room }
+    ensures { result ≡ with_word reader room }
 {
     let place = reader.place;
     let found = if reader.found < room {
@@ -155,7 +157,7 @@ fn with_word(reader: Reader, room: usize) -> Reader
 }
 
 fn with_fault(reader: Reader) -> Reader
-    ensures { result ≡ withFault reader }
+    ensures { result ≡ with_fault reader }
 {
     let place = reader.place;
     Reader {
@@ -169,7 +171,7 @@ fn with_fault(reader: Reader) -> Reader
 }
 
 fn fault_at(reader: Reader, expected: Expected) -> Fault
-    ensures { result ≡ faultAt reader expected }
+    ensures { result ≡ fault_at reader expected }
 {
     Fault {
         line: reader.line,
@@ -180,7 +182,7 @@ fn fault_at(reader: Reader, expected: Expected) -> Fault
 
 // A word in its place, if there is room for it.
 fn keep(at: usize, word: u16, words: &mut [u16])
-    ensures { words.new ≡ keptWord at word words.old }
+    ensures { words.new ≡ kept_word at word words.old }
 {
     if at < words.len() {
         words[at] = word;

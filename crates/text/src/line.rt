@@ -1,7 +1,7 @@
 // What a byte does to the line that is being read.
 ghost use Rattle.std.specs.Prelude.{◌≡◌};
 ghost use Rattle.text.specs.declared.Place.TheVariants.{Between, Within, After};
-ghost use Rattle.text.specs.Lines.{move as specs·move, fault as specs·fault, orEnd, over as specs·over, begun as specs·begun, withDigit, oneWordMore, grown as specs·grown, move_of};
+ghost use Rattle.text.specs.Lines.{move, fault, or_end, over, begun, with_digit, one_word_more, grown, move_of};
 
 use crate::{Expected, Kind, Met, Move, Place, WORDS_PER_LINE};
 
@@ -9,7 +9,7 @@ use crate::{Expected, Kind, Met, Move, Place, WORDS_PER_LINE};
 const LAST_DIGIT: u8 = 3;
 
 fn move_to(place: Place, words: usize, met: Met) -> Move
-    ensures { result ≡ specs·move place words met }
+    ensures { result ≡ move place words met }
 {
     Move {
         place: place,
@@ -20,14 +20,14 @@ fn move_to(place: Place, words: usize, met: Met) -> Move
 
 // A fault: the rest of the line is passed over.
 fn fault(words: usize, expected: Expected) -> Move
-    ensures { result ≡ specs·fault words expected }
+    ensures { result ≡ fault words expected }
 {
     move_to(Place::Rest, words, Met::Fault(expected))
 }
 
 // No word stands after the last one of a line.
 fn or_end(words: usize, expected: Expected) -> Expected
-    ensures { result ≡ orEnd words expected }
+    ensures { result ≡ or_end words expected }
 {
     if words < WORDS_PER_LINE {
         expected
@@ -38,7 +38,7 @@ fn or_end(words: usize, expected: Expected) -> Expected
 
 // The words of a line are over: it has none, or all of them.
 fn over(words: usize) -> Move
-    ensures { result ≡ specs·over words }
+    ensures { result ≡ over words }
 {
     if words == 0 {
         return move_to(Place::Rest, words, Met::Nothing);
@@ -51,7 +51,7 @@ fn over(words: usize) -> Move
 
 // A digit where a word may begin.
 fn begun(words: usize, digit: u8) -> Move
-    ensures { result ≡ specs·begun words digit }
+    ensures { result ≡ begun words digit }
 {
     if words < WORDS_PER_LINE {
         move_to(Place::Within(1, digit as u16), words, Met::Nothing)
@@ -62,13 +62,13 @@ fn begun(words: usize, digit: u8) -> Move
 
 // A value with one more digit below it.
 fn with_digit(value: u16, digit: u8) -> u16
-    ensures { result ≡ withDigit value digit }
+    ensures { result ≡ with_digit value digit }
 {
     value % 4096 * 16 + (digit % 16) as u16
 }
 
 fn one_word_more(words: usize) -> usize
-    ensures { result ≡ oneWordMore words }
+    ensures { result ≡ one_word_more words }
 {
     if words < WORDS_PER_LINE {
         words + 1
@@ -79,7 +79,7 @@ fn one_word_more(words: usize) -> usize
 
 // A digit of a word that is begun.
 fn grown(digits: u8, value: u16, words: usize, digit: u8) -> Move
-    ensures { result ≡ specs·grown digits value words digit }
+    ensures { result ≡ grown digits value words digit }
 {
     let longer = with_digit(value, digit);
     if digits < LAST_DIGIT {

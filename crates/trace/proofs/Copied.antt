@@ -5,13 +5,13 @@ use Prim.Native.Nat.{ℕ, ◌+◌, ◌-◌, ◌*◌, ◌≤◌, ◌<◌}
 use native.Mathlib.Nat.{mul-add, mul-le-mul_left}
 use native.Mathlib.Omega.{arith}
 use lib.ListN.{length, take, drop}
-use Rattle.choice.specs.Tells.{acceptedWhole}
+use Rattle.choice.specs.Tells.{accepted_whole}
 use Rattle.choice.proofs.Filling.{turn, turned}
-use Rattle.trace.specs.Layout.{fullCount}
-use Rattle.trace.specs.Blocks.{count_of, recordWords}
-use Rattle.trace.specs.Reading.{blocksOf, recordCount, allRecordWords}
-use Rattle.trace.proofs.Parts.{block-long, blocks_at}
-use Rattle.trace.proofs.Sound.{count_fits, sound-count, records-long}
+use Rattle.trace.specs.Layout.{full_count}
+use Rattle.trace.specs.Blocks.{count_of, record_words}
+use Rattle.trace.specs.Reading.{blocks_of, record_count, all_record_words}
+use Rattle.trace.proofs.Parts.{block_long, blocks_at}
+use Rattle.trace.proofs.Sound.{count_fits, sound-count, records_long}
 use Rattle.trace.proofs.Judged.{from, judgedFrom, block, accepted-step, accepted-count}
 
 -- before block k: the blocks from here on are sound, n records are copied, and what is still to be copied
@@ -19,12 +19,12 @@ pub record Before (w m records : ℕ) (t cycles₀ cycles : List ℕ) (k filled 
   pub n : ℕ
   pub bound : k ≤ m
   pub words : filled ≡ w * n
-  pub sound : judgedFrom w m t k n ≡ acceptedWhole records
+  pub sound : judgedFrom w m t k n ≡ accepted_whole records
   pub room : length cycles ≡ length cycles₀
-  pub fills : take filled cycles ++ allRecordWords w (from w m t k) ≡ allRecordWords w (blocksOf m t)
+  pub fills : take filled cycles ++ all_record_words w (from w m t k) ≡ all_record_words w (blocks_of m t)
   pub rest : drop filled cycles ≡ drop filled cycles₀
 
-pub begins : (w m records : ℕ) (t cycles : List ℕ) → judgedFrom w m t 0 0 ≡ acceptedWhole records → Before w m records t cycles cycles 0 0
+pub begins : (w m records : ℕ) (t cycles : List ℕ) → judgedFrom w m t 0 0 ≡ accepted_whole records → Before w m records t cycles cycles 0 0
 begins w m records t cycles e = record {
   n = 0;
   bound = omega arith;
@@ -33,7 +33,7 @@ begins w m records t cycles e = record {
   room = refl;
   fills =
       let z : m - 0 ≡ m = omega arith in
-      ap (λ (j : ℕ). allRecordWords w (blocksOf j t)) z;
+      ap (λ (j : ℕ). all_record_words w (blocks_of j t)) z;
   rest = refl;
 }
 
@@ -45,7 +45,7 @@ module _ {w m records : ℕ} {t cycles₀ cycles : List ℕ} {k filled : ℕ} (b
         count_fits w (count_of (block w m t k))
         (sound-count w k (m - k - 1) (block w m t k) (accepted-step w m t k b.n h records b.sound).0)
 
-    pub count-here : count_of (block w m t k) ≤ fullCount w
+    pub count-here : count_of (block w m t k) ≤ full_count w
     count-here = sound-count w k (m - k - 1) (block w m t k) (accepted-step w m t k b.n h records b.sound).0
 
     -- with this block's records no more are copied than there are
@@ -59,14 +59,14 @@ module _ {w m records : ℕ} {t cycles₀ cycles : List ℕ} {k filled : ℕ} (b
     room-here = omega (arith, within, b.words, b.room, fits)
 
     pub again : (last : List ℕ) (r : ℕ) → r ≡ w * count_of (block w m t k)
-        → last ≡ recordWords w (block w m t k) ++ drop r (take (length cycles - filled) (drop filled cycles))
+        → last ≡ record_words w (block w m t k) ++ drop r (take (length cycles - filled) (drop filled cycles))
         → Before w m records t cycles₀ (take filled cycles ++ (last ++ drop (length cycles - filled) (drop filled cycles))) (k + 1) (filled + r)
     again last r er el =
         let c = count_of (block w m t k) in
-        let size : length (recordWords w (block w m t k)) ≡ r = records-long w (block w m t k) (block-long k m t h long) count-fits-here ∙ sym er in
-        let next : allRecordWords w (from w m t k) ≡ recordWords w (block w m t k) ++ allRecordWords w (from w m t (k + 1)) = ap (allRecordWords w) (blocks_at m k t h) in
-        let f = turn cycles cycles₀ last (recordWords w (block w m t k)) (allRecordWords w (from w m t k)) (allRecordWords w (from w m t (k + 1)))
-        (allRecordWords w (blocksOf m t)) filled r (omega (arith, room-here, er)) size el next b.fills b.rest in
+        let size : length (record_words w (block w m t k)) ≡ r = records_long w (block w m t k) (block_long k m t h long) count-fits-here ∙ sym er in
+        let next : all_record_words w (from w m t k) ≡ record_words w (block w m t k) ++ all_record_words w (from w m t (k + 1)) = ap (all_record_words w) (blocks_at m k t h) in
+        let f = turn cycles cycles₀ last (record_words w (block w m t k)) (all_record_words w (from w m t k)) (all_record_words w (from w m t (k + 1)))
+        (all_record_words w (blocks_of m t)) filled r (omega (arith, room-here, er)) size el next b.fills b.rest in
         record {
           n = b.n + c;
           bound = omega arith;
@@ -78,12 +78,12 @@ module _ {w m records : ℕ} {t cycles₀ cycles : List ℕ} {k filled : ℕ} (b
         }
 
   -- all blocks are copied
-  pub ends : m ≤ k → cycles ≡ allRecordWords w (blocksOf m t) ++ drop (w * records) cycles₀
+  pub ends : m ≤ k → cycles ≡ all_record_words w (blocks_of m t) ++ drop (w * records) cycles₀
   ends h =
       let z : m - k ≡ 0 = omega arith in
-      let none : allRecordWords w (from w m t k) ≡ [] = ap (λ (j : ℕ). allRecordWords w (blocksOf j (drop (k * 512) t))) z in
-      let zero : recordCount (from w m t k) ≡ 0 = ap (λ (j : ℕ). recordCount (blocksOf j (drop (k * 512) t))) z in
+      let none : all_record_words w (from w m t k) ≡ [] = ap (λ (j : ℕ). all_record_words w (blocks_of j (drop (k * 512) t))) z in
+      let zero : record_count (from w m t k) ≡ 0 = ap (λ (j : ℕ). record_count (blocks_of j (drop (k * 512) t))) z in
       let all : b.n ≡ records = omega (arith, accepted-count w m t k b.n records b.sound, zero) in
       let filled-all : filled ≡ w * records = b.words ∙ ap (λ (x : ℕ). w * x) all in
-      turned cycles cycles₀ (allRecordWords w (from w m t k)) (allRecordWords w (blocksOf m t)) filled none b.fills b.rest
-      ∙ ap (λ (x : ℕ). allRecordWords w (blocksOf m t) ++ drop x cycles₀) filled-all
+      turned cycles cycles₀ (all_record_words w (from w m t k)) (all_record_words w (blocks_of m t)) filled none b.fills b.rest
+      ∙ ap (λ (x : ℕ). all_record_words w (blocks_of m t) ++ drop x cycles₀) filled-all

@@ -10,39 +10,39 @@ use lib.ListN.{length, drop, get_or}
 use lib.Seq.{get_or-drop, get_or-take}
 use borrow.Author.Tests.{eqb-true, eq-eqb, ne_eqb}
 use Rattle.choice.specs.Pick.{pick}
-use Rattle.choice.specs.Tells.{Placed, accepted, acceptedWhole, refusedAt}
+use Rattle.choice.specs.Tells.{Placed, accepted, accepted_whole, refused_at}
 use Rattle.choice.proofs.Tells.{whole-one, whole-refused}
 use Rattle.trace.specs.Layout.{part}
-use Rattle.trace.specs.Blocks.{count_of, blockRefusal}
-use Rattle.trace.specs.Reading.{blocksOf, blockRefusals, afterBlocks, recordCount}
-use Rattle.trace.proofs.Parts.{length-blocks, block-part, blocks_at}
+use Rattle.trace.specs.Blocks.{count_of, block_refusal}
+use Rattle.trace.specs.Reading.{blocks_of, block_refusals, after_blocks, record_count}
+use Rattle.trace.proofs.Parts.{length_blocks, block_part, blocks_at}
 
 -- the first of some blocks is sound where all are accepted, and so are the rest
-pub sound-first : (number i y : ℕ) (rest : Placed ℕ) → pick (eqb number 0) rest (refusedAt number i) ≡ acceptedWhole y → (number ≡ 0) × (rest ≡ acceptedWhole y)
-sound-first number i y rest e = by-test (eqb number 0) refl e
+pub sound_first : (number i y : ℕ) (rest : Placed ℕ) → pick (eqb number 0) rest (refused_at number i) ≡ accepted_whole y → (number ≡ 0) × (rest ≡ accepted_whole y)
+sound_first number i y rest e = by-test (eqb number 0) refl e
   where
-    by-test : (b : Bool) → eqb number 0 ≡ b → pick b rest (refusedAt number i) ≡ acceptedWhole y → (number ≡ 0) × (rest ≡ acceptedWhole y)
+    by-test : (b : Bool) → eqb number 0 ≡ b → pick b rest (refused_at number i) ≡ accepted_whole y → (number ≡ 0) × (rest ≡ accepted_whole y)
     by-test true q f = (eqb-true number 0 q, f)
     by-test false q f = absurd (whole-refused y number i (sym f))
 
 -- blocks that are all sound leave the answer to the rest, whatever it is
-pub all_sound : (numbers : List ℕ) (i y : ℕ) (rest : Placed ℕ) → afterBlocks i numbers rest ≡ acceptedWhole y
-    → (rest ≡ acceptedWhole y) × ((other : Placed ℕ) → afterBlocks i numbers other ≡ other)
+pub all_sound : (numbers : List ℕ) (i y : ℕ) (rest : Placed ℕ) → after_blocks i numbers rest ≡ accepted_whole y
+    → (rest ≡ accepted_whole y) × ((other : Placed ℕ) → after_blocks i numbers other ≡ other)
 all_sound [] i y rest e = (e, (λ other. refl))
 all_sound (k ∷ numbers) i y rest e =
-    let first = sound-first k i y (afterBlocks (i + 1) numbers rest) e in
+    let first = sound_first k i y (after_blocks (i + 1) numbers rest) e in
     let later = all_sound numbers (i + 1) y rest first.1 in
     (later.0, (λ other. rw (eq-eqb k 0 first.0) (later.1 other)))
 
 -- and one that is refused decides it
 module _ (rest : Placed ℕ) where
-  pub one-refused : (numbers : List ℕ) (i x k j : ℕ) → afterBlocks i numbers (acceptedWhole x) ≡ refusedAt k j → afterBlocks i numbers rest ≡ refusedAt k j
+  pub one-refused : (numbers : List ℕ) (i x k j : ℕ) → after_blocks i numbers (accepted_whole x) ≡ refused_at k j → after_blocks i numbers rest ≡ refused_at k j
   one-refused [] i x k j e = absurd (whole-refused x k j e)
   one-refused (n ∷ numbers) i x k j e = by-test (eqb n 0) e (one-refused numbers (i + 1) x k j)
     where
-      by-test : (b : Bool) → pick b (afterBlocks (i + 1) numbers (acceptedWhole x)) (refusedAt n i) ≡ refusedAt k j
-          → (afterBlocks (i + 1) numbers (acceptedWhole x) ≡ refusedAt k j → afterBlocks (i + 1) numbers rest ≡ refusedAt k j)
-          → pick b (afterBlocks (i + 1) numbers rest) (refusedAt n i) ≡ refusedAt k j
+      by-test : (b : Bool) → pick b (after_blocks (i + 1) numbers (accepted_whole x)) (refused_at n i) ≡ refused_at k j
+          → (after_blocks (i + 1) numbers (accepted_whole x) ≡ refused_at k j → after_blocks (i + 1) numbers rest ≡ refused_at k j)
+          → pick b (after_blocks (i + 1) numbers rest) (refused_at n i) ≡ refused_at k j
       by-test true e f = f e
       by-test false e f = e
 
@@ -50,75 +50,75 @@ module _ (rest : Placed ℕ) where
 module _ (w m : ℕ) (t : List ℕ) where
   -- the blocks from k on, and their judgement with n records before them
   abbrev pub from : ℕ → List (List ℕ)
-  from k = blocksOf (m - k) (drop (k * 512) t)
+  from k = blocks_of (m - k) (drop (k * 512) t)
 
   abbrev pub judgedFrom : ℕ → ℕ → Placed ℕ
-  judgedFrom k n = afterBlocks k (blockRefusals w k (from k)) (acceptedWhole (n + recordCount (from k)))
+  judgedFrom k n = after_blocks k (block_refusals w k (from k)) (accepted_whole (n + record_count (from k)))
 
   abbrev pub block : ℕ → List ℕ
   block k = part (k * 512) (k * 512 + 512) t
 
   -- the count byte of block k, as the code reads it
   pub count_at : (k : ℕ) → get_or t (k * 512 + 2) 0 ≡ count_of (block k)
-  count_at k = rw (← block-part k t, get_or-take 512 (drop (k * 512) t) 2 0 (omega arith), get_or-drop)
+  count_at k = rw (← block_part k t, get_or-take 512 (drop (k * 512) t) 2 0 (omega arith), get_or-drop)
 
   -- the refusal number of block k, and what becomes of the blocks from k on before some rest
   abbrev pub number : ℕ → ℕ
-  number k = blockRefusal w k (m - k - 1) (block k)
+  number k = block_refusal w k (m - k - 1) (block k)
 
   abbrev pub afterFrom : ℕ → Placed ℕ → Placed ℕ
-  afterFrom k rest = afterBlocks k (blockRefusals w k (from k)) rest
+  afterFrom k rest = after_blocks k (block_refusals w k (from k)) rest
 
-  pub after-all : (rest : Placed ℕ) → afterFrom 0 rest ≡ afterBlocks 0 (blockRefusals w 0 (blocksOf m t)) rest
+  pub after-all : (rest : Placed ℕ) → afterFrom 0 rest ≡ after_blocks 0 (block_refusals w 0 (blocks_of m t)) rest
   after-all rest =
       let e : m - 0 ≡ m = omega arith in
-      ap (λ (j : ℕ). afterBlocks 0 (blockRefusals w 0 (blocksOf j t)) rest) e
+      ap (λ (j : ℕ). after_blocks 0 (block_refusals w 0 (blocks_of j t)) rest) e
 
   -- no block is left
   pub after_none : (k : ℕ) (rest : Placed ℕ) → m ≤ k → afterFrom k rest ≡ rest
   after_none k rest h =
       let z : m - k ≡ 0 = omega arith in
-      ap (λ (j : ℕ). afterBlocks k (blockRefusals w k (blocksOf j (drop (k * 512) t))) rest) z
+      ap (λ (j : ℕ). after_blocks k (block_refusals w k (blocks_of j (drop (k * 512) t))) rest) z
 
-  pub after-step : (k : ℕ) → k < m → (rest : Placed ℕ) → afterFrom k rest ≡ pick (eqb (number k) 0) (afterFrom (k + 1) rest) (refusedAt (number k) k)
-  after-step k h rest =
-      let e : length (from (k + 1)) ≡ m - k - 1 = length-blocks (m - (k + 1)) (drop ((k + 1) * 512) t) ∙ omega arith in
-      ap (λ (l : List (List ℕ)). afterBlocks k (blockRefusals w k l) rest) (blocks_at m k t h)
-      ∙ ap (λ (left : ℕ). pick (eqb (blockRefusal w k left (block k)) 0) (afterFrom (k + 1) rest) (refusedAt (blockRefusal w k left (block k)) k)) e
+  pub after_step : (k : ℕ) → k < m → (rest : Placed ℕ) → afterFrom k rest ≡ pick (eqb (number k) 0) (afterFrom (k + 1) rest) (refused_at (number k) k)
+  after_step k h rest =
+      let e : length (from (k + 1)) ≡ m - k - 1 = length_blocks (m - (k + 1)) (drop ((k + 1) * 512) t) ∙ omega arith in
+      ap (λ (l : List (List ℕ)). after_blocks k (block_refusals w k l) rest) (blocks_at m k t h)
+      ∙ ap (λ (left : ℕ). pick (eqb (block_refusal w k left (block k)) 0) (afterFrom (k + 1) rest) (refused_at (block_refusal w k left (block k)) k)) e
 
-  pub judged-all : judgedFrom 0 0 ≡ afterBlocks 0 (blockRefusals w 0 (blocksOf m t)) (acceptedWhole (recordCount (blocksOf m t)))
+  pub judged-all : judgedFrom 0 0 ≡ after_blocks 0 (block_refusals w 0 (blocks_of m t)) (accepted_whole (record_count (blocks_of m t)))
   judged-all =
       let e : m - 0 ≡ m = omega arith in
-      after-all (acceptedWhole (0 + recordCount (from 0)))
-      ∙ ap (λ (j : ℕ). afterBlocks 0 (blockRefusals w 0 (blocksOf m t)) (acceptedWhole (0 + recordCount (blocksOf j t)))) e
-      ∙ ap (λ (n : ℕ). afterBlocks 0 (blockRefusals w 0 (blocksOf m t)) (acceptedWhole n)) (zero-add (recordCount (blocksOf m t)))
+      after-all (accepted_whole (0 + record_count (from 0)))
+      ∙ ap (λ (j : ℕ). after_blocks 0 (block_refusals w 0 (blocks_of m t)) (accepted_whole (0 + record_count (blocks_of j t)))) e
+      ∙ ap (λ (n : ℕ). after_blocks 0 (block_refusals w 0 (blocks_of m t)) (accepted_whole n)) (zero-add (record_count (blocks_of m t)))
 
-  pub judged-end : (k n : ℕ) → m ≤ k → judgedFrom k n ≡ acceptedWhole n
+  pub judged-end : (k n : ℕ) → m ≤ k → judgedFrom k n ≡ accepted_whole n
   judged-end k n h =
       let z : m - k ≡ 0 = omega arith in
-      let e : n + recordCount (from k) ≡ n = ap (λ (j : ℕ). n + recordCount (blocksOf j (drop (k * 512) t))) z ∙ omega arith in
-      after_none k (acceptedWhole (n + recordCount (from k))) h ∙ ap acceptedWhole e
+      let e : n + record_count (from k) ≡ n = ap (λ (j : ℕ). n + record_count (blocks_of j (drop (k * 512) t))) z ∙ omega arith in
+      after_none k (accepted_whole (n + record_count (from k))) h ∙ ap accepted_whole e
 
   module _ (k n : ℕ) (h : k < m) where
-    step : judgedFrom k n ≡ pick (eqb (number k) 0) (judgedFrom (k + 1) (n + count_of (block k))) (refusedAt (number k) k)
+    step : judgedFrom k n ≡ pick (eqb (number k) 0) (judgedFrom (k + 1) (n + count_of (block k))) (refused_at (number k) k)
     step =
-        let counted : n + recordCount (from k) ≡ n + count_of (block k) + recordCount (from (k + 1)) =
-        ap (λ (l : List (List ℕ)). n + recordCount l) (blocks_at m k t h) ∙ sym (add_assoc n (count_of (block k)) (recordCount (from (k + 1)))) in
-        ap (λ (x : ℕ). afterFrom k (acceptedWhole x)) counted ∙ after-step k h (acceptedWhole (n + count_of (block k) + recordCount (from (k + 1))))
+        let counted : n + record_count (from k) ≡ n + count_of (block k) + record_count (from (k + 1)) =
+        ap (λ (l : List (List ℕ)). n + record_count l) (blocks_at m k t h) ∙ sym (add_assoc n (count_of (block k)) (record_count (from (k + 1)))) in
+        ap (λ (x : ℕ). afterFrom k (accepted_whole x)) counted ∙ after_step k h (accepted_whole (n + count_of (block k) + record_count (from (k + 1))))
 
     module _ (given : ℕ) (e : given ≡ number k) where
-      pub judged-refused : (given ≡ 0 → ⊥) → refusedAt given k ≡ judgedFrom k n
+      pub judged-refused : (given ≡ 0 → ⊥) → refused_at given k ≡ judgedFrom k n
       judged-refused d = rw (step, ← e, ne_eqb given 0 d)
 
       pub judged-sound : given ≡ 0 → (x : ℕ) → x ≡ count_of (block k) → judgedFrom (k + 1) (n + x) ≡ judgedFrom k n
       judged-sound z x ex = rw (step, ← e, eq-eqb given 0 z, ex)
 
     -- where all is accepted, block k is sound and so is the rest
-    pub accepted-step : (y : ℕ) → judgedFrom k n ≡ acceptedWhole y
-        → (number k ≡ 0) × (judgedFrom (k + 1) (n + count_of (block k)) ≡ acceptedWhole y)
+    pub accepted-step : (y : ℕ) → judgedFrom k n ≡ accepted_whole y
+        → (number k ≡ 0) × (judgedFrom (k + 1) (n + count_of (block k)) ≡ accepted_whole y)
     accepted-step y e =
-        sound-first (number k) k y (judgedFrom (k + 1) (n + count_of (block k))) (sym step ∙ e)
+        sound_first (number k) k y (judgedFrom (k + 1) (n + count_of (block k))) (sym step ∙ e)
 
   -- the records so far are no more than all
-  pub accepted-count : (k n y : ℕ) → judgedFrom k n ≡ acceptedWhole y → n + recordCount (from k) ≡ y
-  accepted-count k n y e = whole-one (n + recordCount (from k)) y (all_sound (blockRefusals w k (from k)) k y (acceptedWhole (n + recordCount (from k))) e).0
+  pub accepted-count : (k n y : ℕ) → judgedFrom k n ≡ accepted_whole y → n + record_count (from k) ≡ y
+  accepted-count k n y e = whole-one (n + record_count (from k)) y (all_sound (block_refusals w k (from k)) k y (accepted_whole (n + record_count (from k))) e).0

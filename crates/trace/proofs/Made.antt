@@ -9,11 +9,11 @@ use lib.ListN.{length, take, drop, replicate, length-append, length-take, length
 use lib.Seq.{take_all, take_at, drop_at, drop-drop}
 use borrow.Author.Tests.{leb-true, leb-false}
 use Rattle.choice.proofs.Filling.{middle-take, middle-long, middle-end}
-use Rattle.trace.specs.Check.{checkOf}
+use Rattle.trace.specs.Check.{check_of}
 use Rattle.trace.specs.Layout.{part, bytes_of, joined}
 use Rattle.trace.specs.Blocks.{head_of, body_of, sealed, block_of}
 use Rattle.trace.specs.Writing.{blocks_from}
-use Rattle.trace.proofs.Words.{length-bytes}
+use Rattle.trace.proofs.Words.{length_bytes}
 
 -- the bytes of a block before its check: with the head in place, and with the words
 abbrev pub with_head : List ℕ → List ℕ → List ℕ
@@ -35,9 +35,9 @@ module _ (body head bytes : List ℕ) (end : ℕ) (lb : length body ≡ 510) (lh
       middle-end (with_words body head bytes end) filling end 510 f words_long
       ∙ ap (λ (l : List ℕ). l ++ filling) (middle-take (with_head body head) bytes 4 end g (omega (arith, head-long)) ly ∙ ap (λ (l : List ℕ). l ++ bytes) first)
 
-pub length-head : (w k n : ℕ) → length (head_of w k n) ≡ 4
+pub length_head : (w k n : ℕ) → length (head_of w k n) ≡ 4
 unfolding head_of
-length-head w k n = refl
+length_head w k n = refl
 
 pub body_is : (w k : ℕ) (words body head bytes filling : List ℕ) → length body ≡ 510 → length words ≤ 252 → head ≡ head_of w k (length words) → bytes ≡ bytes_of words
     → let end = 4 + 2 * length words in
@@ -46,35 +46,35 @@ pub body_is : (w k : ℕ) (words body head bytes filling : List ℕ) → length 
 unfolding body_of
 body_is w k words body head bytes filling lb lw eh ey ef =
     let end = 4 + 2 * length words in
-    let lh : length head ≡ 4 = ap length eh ∙ length-head w k (length words) in
-    let ly : length bytes ≡ end - 4 = ap length ey ∙ length-bytes words ∙ omega arith in
+    let lh : length head ≡ 4 = ap length eh ∙ length_head w k (length words) in
+    let ly : length bytes ≡ end - 4 = ap length ey ∙ length_bytes words ∙ omega arith in
     let l : length (with_words body head bytes end) ≡ 510 = words_long body head bytes end lb lh (omega arith) (omega arith) ly in
     let lf : length (take (510 - end) (drop end (with_words body head bytes end))) ≡ 506 - 2 * length words = simp (length-take, length-drop) (omega arith) in
     let f : filling ≡ replicate (506 - 2 * length words) 0 = rw lf at ef in
     rw (← ey, ← eh, ← f) (pieces body head bytes end lb lh (omega arith) (omega arith) ly filling)
 
-pub body-long : (w k : ℕ) (words : List ℕ) → length words ≤ 252 → length (body_of w k words) ≡ 510
+pub body_long : (w k : ℕ) (words : List ℕ) → length words ≤ 252 → length (body_of w k words) ≡ 510
 unfolding body_of head_of
-body-long w k words h = simp (length-append, length-replicate, length-bytes) (omega arith)
+body_long w k words h = simp (length-append, length-replicate, length_bytes) (omega arith)
 
 -- the check put after the bytes that it is over
-pub sealed-is : (block body pair : List ℕ) (sum : ℕ) → length block ≡ 512 → length body ≡ 510 → sum ≡ checkOf (take 510 (body ++ drop 510 block)) → pair ≡ sum / 256 ∷ sum % 256 ∷ []
+pub sealed_is : (block body pair : List ℕ) (sum : ℕ) → length block ≡ 512 → length body ≡ 510 → sum ≡ check_of (take 510 (body ++ drop 510 block)) → pair ≡ sum / 256 ∷ sum % 256 ∷ []
     → take 510 (body ++ drop 510 block) ++ (pair ++ drop 2 (drop 510 (body ++ drop 510 block))) ≡ sealed body
 unfolding sealed
-sealed-is block body pair sum lb l es ep =
+sealed_is block body pair sum lb l es ep =
     let t : take 510 (body ++ drop 510 block) ≡ body = take_at body (drop 510 block) 510 l in
     let d : drop 510 (body ++ drop 510 block) ≡ drop 510 block = drop_at body (drop 510 block) 510 l in
     let h : length (drop 510 block) ≤ 2 = simp length-drop (omega arith) in
-    let e : sum ≡ checkOf body = es ∙ ap checkOf t in
+    let e : sum ≡ check_of body = es ∙ ap check_of t in
     rw (t, d, drop_of_length-le (drop 510 block) h, append-nil, ep, e)
 
-pub made-long : (w k : ℕ) (words : List ℕ) → length words ≤ 252 → length (block_of w k words) ≡ 512
+pub made_long : (w k : ℕ) (words : List ℕ) → length words ≤ 252 → length (block_of w k words) ≡ 512
 unfolding sealed
-made-long w k words h = simp length-append (omega (arith, body-long w k words h))
+made_long w k words h = simp length-append (omega (arith, body_long w k words h))
 
 -- the words of block k, as the code takes them
-words-part : (k n : ℕ) (words : List ℕ) → n ≡ min (length words - k * 252) 252 → part (k * 252) (k * 252 + n) words ≡ take 252 (drop (k * 252) words)
-words-part k n words e =
+words_part : (k n : ℕ) (words : List ℕ) → n ≡ min (length words - k * 252) 252 → part (k * 252) (k * 252 + n) words ≡ take 252 (drop (k * 252) words)
+words_part k n words e =
     let f : k * 252 + n - k * 252 ≡ n = omega arith in
     rw f (by-test (drop (k * 252) words) n (rw length-drop e) (leb (length (drop (k * 252) words)) 252) refl)
   where
@@ -89,9 +89,9 @@ words-part k n words e =
         rw g
 
 -- a turn of the loop that writes blocks
-pub made-step : (w m k n : ℕ) (words made : List ℕ) → k < m → n ≡ min (length words - k * 252) 252 → made ≡ block_of w k (part (k * 252) (k * 252 + n) words)
+pub made_step : (w m k n : ℕ) (words made : List ℕ) → k < m → n ≡ min (length words - k * 252) 252 → made ≡ block_of w k (part (k * 252) (k * 252 + n) words)
     → joined (blocks_from w (m - k) k (drop (k * 252) words)) ≡ made ++ joined (blocks_from w (m - (k + 1)) (k + 1) (drop ((k + 1) * 252) words))
-made-step w m k n words made h e em =
+made_step w m k n words made h e em =
     let f : m - k ≡ suc (m - (k + 1)) = omega arith in
     let g : (k + 1) * 252 ≡ k * 252 + 252 = omega arith in
-    rw (f, g, em, words-part k n words e, drop-drop)
+    rw (f, g, em, words_part k n words e, drop-drop)

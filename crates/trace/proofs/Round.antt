@@ -10,22 +10,22 @@ use lib.ListN.{length, take, drop, get_or, replicate, length-append, length-take
 use lib.Seq.{take_at, drop_at, get_or_at, take_all}
 use borrow.Author.Tests.{leb-true, leb-false, eq-eqb}
 use Rattle.choice.specs.Tells.{Placed}
-use Rattle.trace.specs.Check.{checkOf}
-use Rattle.trace.specs.Layout.{fullCount, formByte, part, word_at, bytes_of, joined}
-use Rattle.trace.specs.Blocks.{count_of, countGood, recordsEnd, shapeGood, checkHeld, checkGood, blockRefusal, recordWords, head_of, body_of, sealed, block_of}
-use Rattle.trace.specs.Reading.{blocksOf, blockRefusals, afterBlocks, recordCount, allRecordWords}
+use Rattle.trace.specs.Check.{check_of}
+use Rattle.trace.specs.Layout.{full_count, form_byte, part, word_at, bytes_of, joined}
+use Rattle.trace.specs.Blocks.{count_of, count_good, records_end, shape_good, check_held, check_good, block_refusal, record_words, head_of, body_of, sealed, block_of}
+use Rattle.trace.specs.Reading.{blocks_of, block_refusals, after_blocks, record_count, all_record_words}
 use Rattle.trace.specs.Writing.{blocks_from}
-use Rattle.trace.proofs.Words.{words-bytes, zeros, length-bytes, none_left}
-use Rattle.trace.proofs.Sound.{count-is-good}
-use Rattle.trace.proofs.Made.{length-head, body-long, made-long}
+use Rattle.trace.proofs.Words.{words_bytes, zeros, length_bytes, none_left}
+use Rattle.trace.proofs.Sound.{count_is_good}
+use Rattle.trace.proofs.Made.{length_head, body_long, made_long}
 
 -- the check of a sealed block
 module _ (body : List ℕ) (long : length body ≡ 510) where
   abbrev high : ℕ
-  high = checkOf body / 256
+  high = check_of body / 256
 
   abbrev low : ℕ
-  low = checkOf body % 256
+  low = check_of body % 256
 
   sealed-body : part 0 510 (sealed body) ≡ body
   unfolding sealed
@@ -39,14 +39,14 @@ module _ (body : List ℕ) (long : length body ≡ 510) where
   unfolding sealed
   sealed-low = rw (← append_assoc body (high ∷ []) (low ∷ [])) (get_or_at (body ++ (high ∷ [])) low [] 0 511 (simp length-append (omega arith)))
 
-  pub sealed-good : checkGood (sealed body) ≡ true
-  unfolding checkGood checkHeld
-  sealed-good = rw (sealed-body, sealed-high, sealed-low) (eq-eqb (checkOf body) (256 * high + low) (omega arith))
+  pub sealed-good : check_good (sealed body) ≡ true
+  unfolding check_good check_held
+  sealed-good = rw (sealed-body, sealed-high, sealed-low) (eq-eqb (check_of body) (256 * high + low) (omega arith))
 
 -- a block of c records
 module _ (w k c : ℕ) (words : List ℕ) (pos : 0 < w) (long : length words ≡ w * c) (short : length words ≤ 252) where
   abbrev pair : List ℕ
-  pair = checkOf (body_of w k words) / 256 ∷ checkOf (body_of w k words) % 256 ∷ []
+  pair = check_of (body_of w k words) / 256 ∷ check_of (body_of w k words) % 256 ∷ []
 
   abbrev filling : List ℕ
   filling = replicate (506 - 2 * length words) 0
@@ -59,7 +59,7 @@ module _ (w k c : ℕ) (words : List ℕ) (pos : 0 < w) (long : length words ≡
   unfolding sealed body_of head_of
   made-count = rw long (mul-div_cancel_left c pos)
 
-  made-form : get_or (block_of w k words) 3 0 ≡ formByte w
+  made-form : get_or (block_of w k words) 3 0 ≡ form_byte w
   unfolding sealed body_of head_of
   made-form = refl
 
@@ -67,45 +67,45 @@ module _ (w k c : ℕ) (words : List ℕ) (pos : 0 < w) (long : length words ≡
   unfolding sealed body_of head_of
   made-number = omega arith
 
-  end_is : recordsEnd w c ≡ 4 + 2 * length words
+  end_is : records_end w c ≡ 4 + 2 * length words
   end_is = rw long
 
-  pub made-records : recordWords w (block_of w k words) ≡ words
-  unfolding recordWords
+  pub made-records : record_words w (block_of w k words) ≡ words
+  unfolding record_words
   made-records =
-      let d : drop 4 (head_of w k (length words) ++ (bytes_of words ++ (filling ++ pair))) ≡ bytes_of words ++ (filling ++ pair) = drop_at (head_of w k (length words)) _ 4 (length-head w k (length words)) in
-      let l : length (bytes_of words) ≡ 4 + 2 * length words - 4 = length-bytes words ∙ omega arith in
-      rw (made-count, end_is, pieces, d, take_at (bytes_of words) (filling ++ pair) _ l) (words-bytes words)
+      let d : drop 4 (head_of w k (length words) ++ (bytes_of words ++ (filling ++ pair))) ≡ bytes_of words ++ (filling ++ pair) = drop_at (head_of w k (length words)) _ 4 (length_head w k (length words)) in
+      let l : length (bytes_of words) ≡ 4 + 2 * length words - 4 = length_bytes words ∙ omega arith in
+      rw (made-count, end_is, pieces, d, take_at (bytes_of words) (filling ++ pair) _ l) (words_bytes words)
 
-  made-filling : part (recordsEnd w c) 510 (block_of w k words) ≡ filling
+  made-filling : part (records_end w c) 510 (block_of w k words) ≡ filling
   made-filling =
-      let h : length (head_of w k (length words) ++ bytes_of words) ≡ 4 + 2 * length words = simp length-append (omega (arith, length-head w k (length words), length-bytes words)) in
+      let h : length (head_of w k (length words) ++ bytes_of words) ≡ 4 + 2 * length words = simp length-append (omega (arith, length_head w k (length words), length_bytes words)) in
       let l : length filling ≡ 510 - (4 + 2 * length words) = length-replicate {A = ℕ} (506 - 2 * length words) 0 ∙ omega arith in
       rw (end_is, pieces, ← append_assoc (head_of w k (length words)) (bytes_of words) (filling ++ pair), drop_at (head_of w k (length words) ++ bytes_of words) (filling ++ pair) _ h) (take_at filling pair _ l)
 
-  pub made-sound : (left : ℕ) → countGood w left c ≡ true → blockRefusal w k left (block_of w k words) ≡ 0
-  unfolding blockRefusal shapeGood
-  made-sound left good = rw (sealed-good (body_of w k words) (body-long w k words short), eq-eqb _ _ made-number, made-count, good, eq-eqb _ _ made-form, made-filling, zeros)
+  pub made-sound : (left : ℕ) → count_good w left c ≡ true → block_refusal w k left (block_of w k words) ≡ 0
+  unfolding block_refusal shape_good
+  made-sound left good = rw (sealed-good (body_of w k words) (body_long w k words short), eq-eqb _ _ made-number, made-count, good, eq-eqb _ _ made-form, made-filling, zeros)
 
 -- the blocks of a made trace are those that were made
-pub made-trace-long : (w m k : ℕ) (words : List ℕ) → length (joined (blocks_from w m k words)) ≡ m * 512
-made-trace-long w zero k words = refl
-made-trace-long w (suc m) k words =
+pub made_trace_long : (w m k : ℕ) (words : List ℕ) → length (joined (blocks_from w m k words)) ≡ m * 512
+made_trace_long w zero k words = refl
+made_trace_long w (suc m) k words =
     let s : length (take 252 words) ≤ 252 = simp length-take (omega arith) in
-    length-append (block_of w k (take 252 words)) _ ∙ omega (arith, made-long w k (take 252 words) s, made-trace-long w m (k + 1) (drop 252 words))
+    length-append (block_of w k (take 252 words)) _ ∙ omega (arith, made_long w k (take 252 words) s, made_trace_long w m (k + 1) (drop 252 words))
 
-pub made-blocks : (w m k : ℕ) (words : List ℕ) → blocksOf m (joined (blocks_from w m k words)) ≡ blocks_from w m k words
-made-blocks w zero k words = refl
-made-blocks w (suc m) k words =
+pub made_blocks : (w m k : ℕ) (words : List ℕ) → blocks_of m (joined (blocks_from w m k words)) ≡ blocks_from w m k words
+made_blocks w zero k words = refl
+made_blocks w (suc m) k words =
     let s : length (take 252 words) ≤ 252 = simp length-take (omega arith) in
     let b = block_of w k (take 252 words) in
     let rest = joined (blocks_from w m (k + 1) (drop 252 words)) in
-    let l : length b ≡ 512 = made-long w k (take 252 words) s in
-    rw (take_at b rest 512 l, drop_at b rest 512 l, made-blocks w m (k + 1) (drop 252 words))
+    let l : length b ≡ 512 = made_long w k (take 252 words) s in
+    rw (take_at b rest 512 l, drop_at b rest 512 l, made_blocks w m (k + 1) (drop 252 words))
 
-length-made : (w m k : ℕ) (words : List ℕ) → length (blocks_from w m k words) ≡ m
-length-made w zero k words = refl
-length-made w (suc m) k words = ap suc (length-made w m (k + 1) (drop 252 words))
+length_made : (w m k : ℕ) (words : List ℕ) → length (blocks_from w m k words) ≡ m
+length_made w zero k words = refl
+length_made w (suc m) k words = ap suc (length_made w m (k + 1) (drop 252 words))
 
 some : (w n x : ℕ) → x ≡ w * n → 0 < x → 1 ≤ n
 some w zero x e h = absurd (omega (arith, mul-zero w))
@@ -118,7 +118,7 @@ none w (suc n) h e =
     absurd (omega (arith, mul-pos h p))
 
 -- whole records fill a block
-module _ (w : ℕ) (pos : 0 < w) (full : w * fullCount w ≡ 252) where
+module _ (w : ℕ) (pos : 0 < w) (full : w * full_count w ≡ 252) where
   -- the first block of what is to be written, with `here` of n records, and the rest
   record First (m n : ℕ) (words : List ℕ) : Type 0 where
     here : ℕ
@@ -126,21 +126,21 @@ module _ (w : ℕ) (pos : 0 < w) (full : w * fullCount w ≡ 252) where
     sum : here + after ≡ n
     long : length (take 252 words) ≡ w * here
     rest : length (drop 252 words) ≡ w * after
-    good : countGood w m here ≡ true
+    good : count_good w m here ≡ true
     most : length (drop 252 words) ≤ m * 252
     least : m * 252 < length (drop 252 words) + 252
 
   first : (m n : ℕ) (words : List ℕ) → length words ≡ w * n → length words ≤ suc m * 252 → suc m * 252 < length words + 252 → First m n words
   first m n words e h g = by-test (leb (length words) 252) refl
     where
-      few : length words ≤ 252 → n ≤ fullCount w
+      few : length words ≤ 252 → n ≤ full_count w
       few s =
-          let q : w * n ≤ w * fullCount w = omega (arith, full, e) in
+          let q : w * n ≤ w * full_count w = omega (arith, full, e) in
           le_of_mul-le-mul_left q pos
 
-      many : 252 < length words → fullCount w ≤ n
+      many : 252 < length words → full_count w ≤ n
       many s =
-          let q : w * fullCount w ≤ w * n = omega (arith, full, e) in
+          let q : w * full_count w ≤ w * n = omega (arith, full, e) in
           le_of_mul-le-mul_left q pos
 
       by-test : (t : Bool) → leb (length words) 252 ≡ t → First m n words
@@ -154,31 +154,31 @@ module _ (w : ℕ) (pos : 0 < w) (full : w * fullCount w ≡ 252) where
             sum = omega arith;
             long = rw (take_all 252 words s) e;
             rest = z ∙ sym (mul-zero w);
-            good = count-is-good w m n (some w n (length words) e (omega arith)) (few s) (λ q. absurd (q last));
+            good = count_is_good w m n (some w n (length words) e (omega arith)) (few s) (λ q. absurd (q last));
             most = omega arith;
             least = omega arith;
           }
       by-test false t =
           let s : 252 < length words = leb-false _ _ t in
-          let i : fullCount w + (n - fullCount w) ≡ n = omega (arith, many s) in
-          let j : w * fullCount w + w * (n - fullCount w) ≡ w * n = sym (mul-add w (fullCount w) (n - fullCount w)) ∙ ap (λ (x : ℕ). w * x) i in
+          let i : full_count w + (n - full_count w) ≡ n = omega (arith, many s) in
+          let j : w * full_count w + w * (n - full_count w) ≡ w * n = sym (mul-add w (full_count w) (n - full_count w)) ∙ ap (λ (x : ℕ). w * x) i in
           let l : length (drop 252 words) ≡ length words - 252 = length-drop 252 words in
           record {
-            here = fullCount w;
-            after = n - fullCount w;
+            here = full_count w;
+            after = n - full_count w;
             sum = i;
             long = simp length-take (omega (arith, full));
             rest = omega (arith, j, l, full, e);
-            good = count-is-good w m (fullCount w) (some w (fullCount w) 252 (sym full) (omega arith)) (omega arith) (λ q. refl);
+            good = count_is_good w m (full_count w) (some w (full_count w) 252 (sym full) (omega arith)) (omega arith) (λ q. refl);
             most = omega arith;
             least = omega arith;
           }
 
   -- m blocks made of n records are sound, have n records, and give back the words
   pub record Round (m k n : ℕ) (words : List ℕ) : Type 0 where
-    pub sound : (i : ℕ) (rest : Placed ℕ) → afterBlocks i (blockRefusals w k (blocks_from w m k words)) rest ≡ rest
-    pub count : recordCount (blocks_from w m k words) ≡ n
-    pub same : allRecordWords w (blocks_from w m k words) ≡ words
+    pub sound : (i : ℕ) (rest : Placed ℕ) → after_blocks i (block_refusals w k (blocks_from w m k words)) rest ≡ rest
+    pub count : record_count (blocks_from w m k words) ≡ n
+    pub same : all_record_words w (blocks_from w m k words) ≡ words
 
   pub round : (m k n : ℕ) (words : List ℕ) → length words ≡ w * n → length words ≤ m * 252 → m * 252 < length words + 252 → Round m k n words
   round zero k n words e h g =
@@ -188,8 +188,8 @@ module _ (w : ℕ) (pos : 0 < w) (full : w * fullCount w ≡ 252) where
       let f = first m n words e h g in
       let s : length (take 252 words) ≤ 252 = simp length-take (omega arith) in
       let r = round m (k + 1) f.after (drop 252 words) f.rest f.most f.least in
-      let zero-here : blockRefusal w k (length (blocks_from w m (k + 1) (drop 252 words))) (block_of w k (take 252 words)) ≡ 0 =
-      rw (length-made w m (k + 1) (drop 252 words)) (made-sound w k f.here (take 252 words) pos f.long s m f.good) in
+      let zero-here : block_refusal w k (length (blocks_from w m (k + 1) (drop 252 words))) (block_of w k (take 252 words)) ≡ 0 =
+      rw (length_made w m (k + 1) (drop 252 words)) (made-sound w k f.here (take 252 words) pos f.long s m f.good) in
       record {
         sound = λ i rest. rw (eq-eqb _ _ zero-here) (r.sound (i + 1) rest);
         count = rw (made-count w k f.here (take 252 words) pos f.long s, r.count) f.sum;

@@ -6,34 +6,34 @@ use Rattle.choice.specs.Tells.{Placed}
 use Rattle.choice.proofs.Tells.{whole-one, refused-at-one, whole-refused}
 use Rattle.trace.specs.declared.Filled.{Filled}
 use Rattle.trace.specs.declared.Filled.TheVariants.{Accepted, Refused}
-use Rattle.trace.specs.Check.{checkOf}
-use Rattle.trace.specs.Answers.{filledTells, Fills}
-use Rattle.trace.specs.Layout.{wordsPerRecord}
-use Rattle.trace.specs.Limits.{keptLength}
+use Rattle.trace.specs.Check.{check_of}
+use Rattle.trace.specs.Answers.{filled_tells, Fills}
+use Rattle.trace.specs.Layout.{words_per_record}
+use Rattle.trace.specs.Limits.{kept_length}
 use Rattle.trace.specs.Reading.{Reads}
 use Rattle.trace.specs.Writing.{Writes}
 
 -- what an answer tells fixes it
-pub filled-one : (x y : Filled) → filledTells x ≡ filledTells y → x ≡ y
-filled-one (Accepted n) (Accepted m) e = ap Accepted (whole-one n m e)
-filled-one (Accepted n) (Refused k i) e = absurd (whole-refused n k i e)
-filled-one (Refused k i) (Accepted n) e = absurd (whole-refused n k i (sym e))
-filled-one (Refused k i) (Refused l j) e =
+pub filled_one : (x y : Filled) → filled_tells x ≡ filled_tells y → x ≡ y
+filled_one (Accepted n) (Accepted m) e = ap Accepted (whole-one n m e)
+filled_one (Accepted n) (Refused k i) e = absurd (whole-refused n k i e)
+filled_one (Refused k i) (Accepted n) e = absurd (whole-refused n k i (sym e))
+filled_one (Refused k i) (Refused l j) e =
     let both = refused-at-one k l i j e in
     ap (λ (x : ℕ). Refused x i) both.0 ∙ ap (Refused l) both.1
 
 fills_one : (answer : Placed ℕ) (made before : List ℕ) (r s : Filled) (after after' : List ℕ) → Fills answer made r before after → Fills answer made s before after'
     → (r ≡ s) × (after ≡ after')
-fills_one answer made before r s after after' f g = (filled-one r s (f.told ∙ sym g.told), f.written ∙ sym g.written)
+fills_one answer made before r s after after' f g = (filled_one r s (f.told ∙ sym g.told), f.written ∙ sym g.written)
 
-pub read-unique : (trace before : List ℕ) (r s : Filled) (after after' : List ℕ) → Reads trace r before after → Reads trace s before after' → (r ≡ s) × (after ≡ after')
-read-unique trace before r s after after' f g = fills_one _ _ before r s after after' f g
+pub read_unique : (trace before : List ℕ) (r s : Filled) (after after' : List ℕ) → Reads trace r before after → Reads trace s before after' → (r ≡ s) × (after ≡ after')
+read_unique trace before r s after after' f g = fills_one _ _ before r s after after' f g
 
-pub write-unique : (words before : List ℕ) (r s : Filled) (after after' : List ℕ) → Writes words r before after → Writes words s before after' → (r ≡ s) × (after ≡ after')
-write-unique words before r s after after' f g = fills_one _ _ before r s after after' f g
+pub write_unique : (words before : List ℕ) (r s : Filled) (after after' : List ℕ) → Writes words r before after → Writes words s before after' → (r ≡ s) × (after ≡ after')
+write_unique words before r s after after' f g = fills_one _ _ before r s after after' f g
 
-pub check-unique : (bytes : List ℕ) (r s : ℕ) → r ≡ checkOf bytes → s ≡ checkOf bytes → r ≡ s
-check-unique bytes r s e f = e ∙ sym f
+pub check_unique : (bytes : List ℕ) (r s : ℕ) → r ≡ check_of bytes → s ≡ check_of bytes → r ≡ s
+check_unique bytes r s e f = e ∙ sym f
 
-pub kept-unique : (length r s : ℕ) → r ≡ keptLength wordsPerRecord length → s ≡ keptLength wordsPerRecord length → r ≡ s
-kept-unique length r s e f = e ∙ sym f
+pub kept_unique : (length r s : ℕ) → r ≡ kept_length words_per_record length → s ≡ kept_length words_per_record length → r ≡ s
+kept_unique length r s e f = e ∙ sym f

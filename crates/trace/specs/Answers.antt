@@ -2,18 +2,18 @@
 use Rattle.std.specs.Prelude.{◌≡◌, ℕ, List, ◌++◌, drop, eqb}
 use Rattle.std.proofs.Math.Option.{none, some}
 use Rattle.choice.specs.Pick.{pick}
-use Rattle.choice.specs.Tells.{Placed, acceptedWhole, refusedAt}
+use Rattle.choice.specs.Tells.{Placed, accepted_whole, refused_at}
 use Rattle.trace.specs.declared.Filled.{Filled}
 use Rattle.trace.specs.declared.Filled.TheVariants.{Accepted, Refused}
 
 -- a number that the checks of the whole gave, with index 0; the rest where they gave none
-abbrev pub orRefused : ℕ → Placed ℕ → Placed ℕ
-orRefused k rest = pick (eqb k 0) rest (refusedAt k 0)
+abbrev pub or_refused : ℕ → Placed ℕ → Placed ℕ
+or_refused k rest = pick (eqb k 0) rest (refused_at k 0)
 
 -- what an answer tells: how much is filled, in words by the reader and in bytes by the writer; or the refusal with its block
-abbrev pub filledTells : Filled → Placed ℕ
-filledTells (Accepted n) = acceptedWhole n
-filledTells (Refused k i) = refusedAt k i
+abbrev pub filled_tells : Filled → Placed ℕ
+filled_tells (Accepted n) = accepted_whole n
+filled_tells (Refused k i) = refused_at k i
 
 -- lent output after an answer: what was made, and then as it was; a refusal leaves it alone
 abbrev pub leaves : Placed ℕ → List ℕ → List ℕ → List ℕ
@@ -21,5 +21,5 @@ leaves answer made before = elim answer.told.value [ some n ↦ made ++ drop n b
 
 -- a call's answer and its lent output afterwards
 pub record Fills (answer : Placed ℕ) (made : List ℕ) (r : Filled) (before after : List ℕ) : Type 0 where
-  pub told : filledTells r ≡ answer
+  pub told : filled_tells r ≡ answer
   pub written : after ≡ leaves answer made before

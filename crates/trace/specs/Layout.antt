@@ -2,30 +2,30 @@
 -- words of records fill a block.
 use Rattle.std.specs.Prelude.{ℕ, ◌+◌, ◌-◌, ◌*◌, ◌/◌, ◌%◌, ◌<◌, List, [], ◌∷◌, ◌++◌, get_or, take, drop}
 
-abbrev pub wordsPerRecord : ℕ
-wordsPerRecord = 3
+abbrev pub words_per_record : ℕ
+words_per_record = 3
 
-abbrev pub blockBytes : ℕ
-blockBytes = 512
+abbrev pub block_bytes : ℕ
+block_bytes = 512
 
 -- bytes 4 to 507 have room for 252 words
-abbrev pub recordsAt : ℕ
-recordsAt = 4
+abbrev pub records_at : ℕ
+records_at = 4
 
-abbrev pub blockWords : ℕ
-blockWords = 252
+abbrev pub block_words : ℕ
+block_words = 252
 
 -- the check is over bytes 0 to 509, and stands after them
-abbrev pub checkedBytes : ℕ
-checkedBytes = 510
+abbrev pub checked_bytes : ℕ
+checked_bytes = 510
 
 -- the records of a full block: 84 of three words
-abbrev pub fullCount : ℕ → ℕ
-fullCount w = blockWords / w
+abbrev pub full_count : ℕ → ℕ
+full_count w = block_words / w
 
 -- byte 3: zero for three words
-abbrev pub formByte : ℕ → ℕ
-formByte w = w - 3
+abbrev pub form_byte : ℕ → ℕ
+form_byte w = w - 3
 
 -- bytes a up to e of a list, e not included
 abbrev pub part : ℕ → ℕ → List ℕ → List ℕ

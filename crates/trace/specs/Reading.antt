@@ -2,60 +2,60 @@
 use Rattle.std.specs.Prelude.{ℕ, zero, suc, ◌+◌, ◌-◌, ◌*◌, ◌/◌, ◌%◌, not, List, [], ◌∷◌, map, length, take, drop, eqb, ltb}
 use Rattle.choice.specs.Pick.{pick}
 use Rattle.choice.specs.Checks.{Check, check, refusal}
-use Rattle.choice.specs.Tells.{Placed, acceptedWhole, refusedAt}
+use Rattle.choice.specs.Tells.{Placed, accepted_whole, refused_at}
 use Rattle.trace.specs.declared.Filled.{Filled}
-use Rattle.run.specs.Runs.{mostCycles}
-use Rattle.trace.specs.Limits.{mostBlocks}
-use Rattle.trace.specs.Layout.{wordsPerRecord, blockBytes, blockWords, joined}
-use Rattle.trace.specs.Blocks.{count_of, blockRefusal, recordWords}
-use Rattle.trace.specs.Answers.{orRefused, Fills}
+use Rattle.run.specs.Runs.{most_cycles}
+use Rattle.trace.specs.Limits.{most_blocks}
+use Rattle.trace.specs.Layout.{words_per_record, block_bytes, block_words, joined}
+use Rattle.trace.specs.Blocks.{count_of, block_refusal, record_words}
+use Rattle.trace.specs.Answers.{or_refused, Fills}
 
 -- the first m blocks of a trace
-abbrev pub blocksOf : ℕ → List ℕ → List (List ℕ)
-blocksOf zero trace = []
-blocksOf (suc m) trace = take blockBytes trace ∷ blocksOf m (drop blockBytes trace)
+abbrev pub blocks_of : ℕ → List ℕ → List (List ℕ)
+blocks_of zero trace = []
+blocks_of (suc m) trace = take block_bytes trace ∷ blocks_of m (drop block_bytes trace)
 
-abbrev pub traceBlocks : List ℕ → List (List ℕ)
-traceBlocks trace = blocksOf (length trace / blockBytes) trace
+abbrev pub trace_blocks : List ℕ → List (List ℕ)
+trace_blocks trace = blocks_of (length trace / block_bytes) trace
 
 -- the refusal number of each block, 0 where it is sound; the first of them is block k
-abbrev pub blockRefusals : ℕ → ℕ → List (List ℕ) → List ℕ
-blockRefusals w k [] = []
-blockRefusals w k (block ∷ blocks) = blockRefusal w k (length blocks) block ∷ blockRefusals w (k + 1) blocks
+abbrev pub block_refusals : ℕ → ℕ → List (List ℕ) → List ℕ
+block_refusals w k [] = []
+block_refusals w k (block ∷ blocks) = block_refusal w k (length blocks) block ∷ block_refusals w (k + 1) blocks
 
 -- the first block that is refused, from block i on, or the rest
-abbrev pub afterBlocks : ℕ → List ℕ → Placed ℕ → Placed ℕ
-afterBlocks i [] rest = rest
-afterBlocks i (number ∷ numbers) rest = pick (eqb number 0) (afterBlocks (i + 1) numbers rest) (refusedAt number i)
+abbrev pub after_blocks : ℕ → List ℕ → Placed ℕ → Placed ℕ
+after_blocks i [] rest = rest
+after_blocks i (number ∷ numbers) rest = pick (eqb number 0) (after_blocks (i + 1) numbers rest) (refused_at number i)
 
 -- the records of all blocks: how many, and their words
-abbrev pub recordCount : List (List ℕ) → ℕ
-recordCount [] = 0
-recordCount (block ∷ blocks) = count_of block + recordCount blocks
+abbrev pub record_count : List (List ℕ) → ℕ
+record_count [] = 0
+record_count (block ∷ blocks) = count_of block + record_count blocks
 
-abbrev pub allRecordWords : ℕ → List (List ℕ) → List ℕ
-allRecordWords w blocks = joined (map (recordWords w) blocks)
+abbrev pub all_record_words : ℕ → List (List ℕ) → List ℕ
+all_record_words w blocks = joined (map (record_words w) blocks)
 
 -- the cycle words that are given out are those of the records
-abbrev pub readWords : ℕ → List ℕ → List ℕ
-readWords w trace = allRecordWords w (traceBlocks trace)
+abbrev pub read_words : ℕ → List ℕ → List ℕ
+read_words w trace = all_record_words w (trace_blocks trace)
 
 -- the refusals of a whole trace, before its blocks are looked at and after
-abbrev pub wholeChecks : ℕ → ℕ → List Check
-wholeChecks w bytes = check 11 (not (eqb (bytes % blockBytes) 0)) ∷ check 2 (ltb (mostBlocks w) (bytes / blockBytes)) ∷ []
+abbrev pub whole_checks : ℕ → ℕ → List Check
+whole_checks w bytes = check 11 (not (eqb (bytes % block_bytes) 0)) ∷ check 2 (ltb (most_blocks w) (bytes / block_bytes)) ∷ []
 
-abbrev pub endChecks : ℕ → ℕ → ℕ → List Check
-endChecks w records room = check 2 (ltb mostCycles records) ∷ check 3 (ltb room (w * records)) ∷ []
+abbrev pub end_checks : ℕ → ℕ → ℕ → List Check
+end_checks w records room = check 2 (ltb most_cycles records) ∷ check 3 (ltb room (w * records)) ∷ []
 
 -- the answer once all blocks are sound
-abbrev pub readEnd : ℕ → ℕ → ℕ → Placed ℕ
-readEnd w records room = orRefused (refusal (endChecks w records room)) (acceptedWhole (w * records))
+abbrev pub read_end : ℕ → ℕ → ℕ → Placed ℕ
+read_end w records room = or_refused (refusal (end_checks w records room)) (accepted_whole (w * records))
 
 unfoldable pub read_of : ℕ → List ℕ → ℕ → Placed ℕ
 read_of w trace room =
-    orRefused (refusal (wholeChecks w (length trace)))
-    (afterBlocks 0 (blockRefusals w 0 (traceBlocks trace)) (readEnd w (recordCount (traceBlocks trace)) room))
+    or_refused (refusal (whole_checks w (length trace)))
+    (after_blocks 0 (block_refusals w 0 (trace_blocks trace)) (read_end w (record_count (trace_blocks trace)) room))
 
 -- what the reader promises: a trace, its answer, and the lent cycle words before and after
 abbrev pub Reads : List ℕ → Filled → List ℕ → List ℕ → Type 0
-Reads trace r before after = Fills (read_of wordsPerRecord trace (length before)) (readWords wordsPerRecord trace) r before after
+Reads trace r before after = Fills (read_of words_per_record trace (length before)) (read_words words_per_record trace) r before after

@@ -1,9 +1,9 @@
 // The records of sound blocks into words.
 ghost use Rattle.std.specs.Prelude.{◌≡◌, ◌++◌, ◌+◌, ◌*◌, ◌≤◌, length, drop};
-ghost use Rattle.choice.specs.Tells.{acceptedWhole};
-ghost use Rattle.trace.specs.Layout.{wordsPerRecord, words_of};
-ghost use Rattle.trace.specs.Blocks.{count_of, recordWords};
-ghost use Rattle.trace.specs.Reading.{blocksOf, blockRefusals, afterBlocks, recordCount, allRecordWords};
+ghost use Rattle.choice.specs.Tells.{accepted_whole};
+ghost use Rattle.trace.specs.Layout.{words_per_record, words_of};
+ghost use Rattle.trace.specs.Blocks.{count_of, record_words};
+ghost use Rattle.trace.specs.Reading.{blocks_of, block_refusals, after_blocks, record_count, all_record_words};
 
 use crate::judging::wide;
 use crate::layout::{BLOCK_BYTES, RECORDS_AT, WORDS_PER_RECORD};
@@ -28,8 +28,8 @@ fn copy_words(area: &[u8], out: &mut [u16])
 
 // Copies the records of a block, and answers how many words that was.
 fn copy_block(block: &[u8], out: &mut [u16]) -> usize
-    requires { (length block.now ≡ 512) × (count_of block.now ≤ 84) × (wordsPerRecord * count_of block.now ≤ length out.old) }
-    ensures { (result ≡ wordsPerRecord * count_of block.now) × (out.new ≡ recordWords wordsPerRecord block.now ++ drop result out.old) }
+    requires { (length block.now ≡ 512) × (count_of block.now ≤ 84) × (words_per_record * count_of block.now ≤ length out.old) }
+    ensures { (result ≡ words_per_record * count_of block.now) × (out.new ≡ record_words words_per_record block.now ++ drop result out.old) }
 {
     let words = WORDS_PER_RECORD * wide(block[2]);
     let end = RECORDS_AT + 2 * words;
@@ -39,8 +39,8 @@ fn copy_block(block: &[u8], out: &mut [u16]) -> usize
 
 // Copies the records of sound blocks.
 pub(crate) fn copy_all(blocks: usize, records: usize, trace: &[u8], cycles: &mut [u16])
-    requires { (blocks ≤ 49) × (length trace.now ≡ blocks * 512) × (afterBlocks 0 (blockRefusals wordsPerRecord 0 (blocksOf blocks trace.now)) (acceptedWhole (recordCount (blocksOf blocks trace.now))) ≡ acceptedWhole records) × (wordsPerRecord * records ≤ length cycles.old) }
-    ensures { cycles.new ≡ allRecordWords wordsPerRecord (blocksOf blocks trace.now) ++ drop (wordsPerRecord * records) cycles.old }
+    requires { (blocks ≤ 49) × (length trace.now ≡ blocks * 512) × (after_blocks 0 (block_refusals words_per_record 0 (blocks_of blocks trace.now)) (accepted_whole (record_count (blocks_of blocks trace.now))) ≡ accepted_whole records) × (words_per_record * records ≤ length cycles.old) }
+    ensures { cycles.new ≡ all_record_words words_per_record (blocks_of blocks trace.now) ++ drop (words_per_record * records) cycles.old }
 {
     let mut k: usize = 0;
     let mut filled: usize = 0;

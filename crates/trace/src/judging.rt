@@ -1,10 +1,10 @@
 // What a block is refused for, and the first block of a trace that is.
 ghost use Rattle.std.specs.Prelude.{◌≡◌, ◌+◌, ◌*◌, ◌≤◌, ◌<◌, length};
-ghost use Rattle.choice.specs.Tells.{acceptedWhole};
-ghost use Rattle.trace.specs.Layout.{wordsPerRecord, word_at};
-ghost use Rattle.trace.specs.Blocks.{countGood, allZero, shapeGood, checkHeld, checkGood, blockRefusal};
-ghost use Rattle.trace.specs.Answers.{filledTells};
-ghost use Rattle.trace.specs.Reading.{blocksOf, blockRefusals, afterBlocks, recordCount};
+ghost use Rattle.choice.specs.Tells.{accepted_whole};
+ghost use Rattle.trace.specs.Layout.{words_per_record, word_at};
+ghost use Rattle.trace.specs.Blocks.{count_good, all_zero, shape_good, check_held, check_good, block_refusal};
+ghost use Rattle.trace.specs.Answers.{filled_tells};
+ghost use Rattle.trace.specs.Reading.{blocks_of, block_refusals, after_blocks, record_count};
 
 use crate::Filled;
 use crate::layout::{
@@ -24,7 +24,7 @@ fn wide_word(x: u16) -> usize
 }
 
 fn all_zero(bytes: &[u8]) -> bool
-    ensures { result ≡ allZero bytes.now }
+    ensures { result ≡ all_zero bytes.now }
 {
     let mut i: usize = 0;
     while i < bytes.len() {
@@ -38,7 +38,7 @@ fn all_zero(bytes: &[u8]) -> bool
 
 // Every block but the last is full, and the last has at least one record.
 fn count_good(left: usize, count: usize) -> bool
-    ensures { result ≡ countGood wordsPerRecord left count }
+    ensures { result ≡ count_good words_per_record left count }
 {
     if left != 0 {
         return count == FULL_COUNT;
@@ -52,7 +52,7 @@ fn count_good(left: usize, count: usize) -> bool
 // The count, byte 3, and the filling up to the check.
 fn shape_good(left: usize, block: &[u8]) -> bool
     requires { length block.now ≡ 512 }
-    ensures { result ≡ shapeGood wordsPerRecord left block.now }
+    ensures { result ≡ shape_good words_per_record left block.now }
 {
     let count = wide(block[2]);
     if !count_good(left, count) {
@@ -74,14 +74,14 @@ fn block_number(block: &[u8]) -> usize
 
 fn check_held(block: &[u8]) -> usize
     requires { length block.now ≡ 512 }
-    ensures { result ≡ checkHeld block.now }
+    ensures { result ≡ check_held block.now }
 {
     256 * wide(block[CHECK_AT]) + wide(block[CHECK_LOW_AT])
 }
 
 fn check_good(block: &[u8]) -> bool
     requires { length block.now ≡ 512 }
-    ensures { result ≡ checkGood block.now }
+    ensures { result ≡ check_good block.now }
 {
     wide_word(crate::check(&block[0..CHECK_AT])) == check_held(block)
 }
@@ -89,7 +89,7 @@ fn check_good(block: &[u8]) -> bool
 // The number that block k gets, 0 where it is sound; `left` blocks follow.
 fn block_refusal(k: usize, left: usize, block: &[u8]) -> u8
     requires { length block.now ≡ 512 }
-    ensures { result ≡ blockRefusal wordsPerRecord k left block.now }
+    ensures { result ≡ block_refusal words_per_record k left block.now }
 {
     if !check_good(block) {
         return 12;
@@ -103,7 +103,7 @@ fn block_refusal(k: usize, left: usize, block: &[u8]) -> u8
 // The blocks in turn: how many records they have, or the first that is refused.
 pub(crate) fn judge(blocks: usize, trace: &[u8]) -> Filled
     requires { (blocks ≤ 49) × (length trace.now ≡ blocks * 512) }
-    ensures { filledTells result ≡ afterBlocks 0 (blockRefusals wordsPerRecord 0 (blocksOf blocks trace.now)) (acceptedWhole (recordCount (blocksOf blocks trace.now))) }
+    ensures { filled_tells result ≡ after_blocks 0 (block_refusals words_per_record 0 (blocks_of blocks trace.now)) (accepted_whole (record_count (blocks_of blocks trace.now))) }
 {
     let mut k: usize = 0;
     let mut records: usize = 0;

@@ -1,4 +1,6 @@
 // Trace blocks: cycle words into blocks of 512 bytes, and back.
+#![tactic(auto)]
+
 mod layout; // layout.rt: where things stand in a block
 mod checking; // checking.rt: the check, a byte to a pass
 mod judging; // judging.rt: what a block is refused for
@@ -6,9 +8,9 @@ mod copying; // copying.rt: the records of blocks into words
 mod making; // making.rt: words into blocks
 
 ghost use Rattle.std.specs.Prelude.{◌≡◌};
-ghost use Rattle.trace.specs.Check.{checkOf};
-ghost use Rattle.trace.specs.Layout.{wordsPerRecord};
-ghost use Rattle.trace.specs.Limits.{keptLength};
+ghost use Rattle.trace.specs.Check.{check_of};
+ghost use Rattle.trace.specs.Layout.{words_per_record};
+ghost use Rattle.trace.specs.Limits.{kept_length};
 ghost use Rattle.trace.specs.Reading.{Reads};
 ghost use Rattle.trace.specs.Writing.{Writes};
 
@@ -17,7 +19,7 @@ pub use layout::{CYCLE_WORDS, INPUT_BYTES, TRACE_BYTES};
 use run::MOST_CYCLES;
 
 // How much of the lent output is filled; or the number of the refusal and the index of the block, 0 where it is of no block.
-#[derive(Drop)]
+#[derive(Clone, Copy)]
 pub enum Filled {
     Accepted(usize),
     Refused(u8, usize),
@@ -25,7 +27,7 @@ pub enum Filled {
 
 // The check of some bytes.
 pub fn check(bytes: &[u8]) -> u16
-    ensures { result ≡ checkOf bytes.now }
+    ensures { result ≡ check_of bytes.now }
 {
     let mut register: u16 = 0;
     let mut i: usize = 0;
@@ -64,7 +66,7 @@ pub fn read(trace: &[u8], cycles: &mut [u16]) -> Filled
 
 // How much of a long input is kept, so that its answer is that of all of it.
 pub fn kept(length: usize) -> usize
-    ensures { result ≡ keptLength wordsPerRecord length }
+    ensures { result ≡ kept_length words_per_record length }
 {
     if length < TOO_LONG {
         length

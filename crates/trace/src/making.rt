@@ -1,6 +1,6 @@
 // Words into blocks.
 ghost use Rattle.std.specs.Prelude.{◌≡◌, [], ◌∷◌, ◌++◌, ◌+◌, ◌*◌, ◌/◌, ◌%◌, ◌≤◌, ◌<◌, min, length, drop, replicate};
-ghost use Rattle.trace.specs.Layout.{wordsPerRecord, bytes_of, joined};
+ghost use Rattle.trace.specs.Layout.{words_per_record, bytes_of, joined};
 ghost use Rattle.trace.specs.Blocks.{head_of, body_of, block_of};
 ghost use Rattle.trace.specs.Writing.{blocks_from};
 
@@ -44,7 +44,7 @@ fn put_zeros(area: &mut [u8])
 // The bytes before the records: number, count and form.
 fn put_head(k: usize, words: usize, head: &mut [u8])
     requires { (k < 65536) × (words ≤ 252) × (length head.old ≡ 4) }
-    ensures { head.new ≡ head_of wordsPerRecord k words }
+    ensures { head.new ≡ head_of words_per_record k words }
 {
     head[0] = (k % 256) as u8;
     head[1] = (k / 256) as u8;
@@ -55,7 +55,7 @@ fn put_head(k: usize, words: usize, head: &mut [u8])
 // The bytes of a block that the check is over.
 fn put_body(k: usize, words: &[u16], body: &mut [u8])
     requires { (k < 65536) × (length words.now ≤ 252) × (length body.old ≡ 510) }
-    ensures { body.new ≡ body_of wordsPerRecord k words.now }
+    ensures { body.new ≡ body_of words_per_record k words.now }
 {
     let n = words.len();
     let end = RECORDS_AT + 2 * n;
@@ -74,7 +74,7 @@ fn put_check(sum: u16, pair: &mut [u8])
 
 fn write_block(k: usize, words: &[u16], block: &mut [u8])
     requires { (k < 65536) × (length words.now ≤ 252) × (length block.old ≡ 512) }
-    ensures { block.new ≡ block_of wordsPerRecord k words.now }
+    ensures { block.new ≡ block_of words_per_record k words.now }
 {
     put_body(k, words, &mut block[0..CHECK_AT]);
     let sum = crate::check(&block[0..CHECK_AT]);
@@ -90,7 +90,7 @@ fn least(a: usize, b: usize) -> usize
 // The blocks that hold the words.
 pub(crate) fn write_blocks(blocks: usize, words: &[u16], trace: &mut [u8])
     requires { (blocks ≤ 49) × (blocks * 252 < length words.now + 252) × (blocks * 512 ≤ length trace.old) }
-    ensures { trace.new ≡ joined (blocks_from wordsPerRecord blocks 0 words.now) ++ drop (blocks * 512) trace.old }
+    ensures { trace.new ≡ joined (blocks_from words_per_record blocks 0 words.now) ++ drop (blocks * 512) trace.old }
 {
     let mut k: usize = 0;
     while k < blocks {

@@ -1,7 +1,7 @@
 use native.Mathlib.Nat.{div-mul-le_self}
 use native.Mathlib.Omega.{arith}
-use Rattle.alu.proofs.Fits.{write-back-fits, low-lt}
-use Rattle.alu.specs.Width.{writeBack}
+use Rattle.alu.proofs.Fits.{write_back_fits, low_lt}
+use Rattle.alu.specs.Width.{write_back}
 use borrow.Author.Rules.{rules}
 use Rattle.alu.proofs.write_back.Statement.{statement}
 use Rattle.alu.proofs.write_back.Tie as tie
@@ -25,15 +25,15 @@ cast-result-2 : tie.Need-overflow-cast-result-2
 cast-result-2 c =
     let s = c.before.size in
     let fits =
-    write-back-fits c.before.before.args.mode c.before.before.args.old s.result c.low.result (search rules)
-    s.ensures.is (rw c.low.ensures (low-lt _ _)) in
+    write_back_fits c.before.before.args.mode c.before.before.args.old s.result c.low.result (search rules)
+    s.ensures.is (rw c.low.ensures (low_lt _ _)) in
     omega (arith, fits)
 
 add-result : tie.Need-overflow-add-result
 add-result c = omega (arith, cast-result-2 c)
 
 returns : tie.Need-returns
-unfolding writeBack
+unfolding write_back
 returns c = rw (c.before.size.ensures.is, c.low.ensures)
 
 pub write-back-spec : {M : Type 1} → statement M

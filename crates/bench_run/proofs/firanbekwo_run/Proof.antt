@@ -12,7 +12,7 @@ same_length : tie.Need-same-length
 same_length c = search rules
 
 returns : tie.Need-returns
-returns c = record { accepted = ap (λ (s : Summary). s.accepted) c.before.before.run-from-zero.ensures.answer; written = c.before.before.run-from-zero.ensures.written }
+returns c = record { accepted = ap (λ (s : Summary). s.accepted) c.before.before.run_from_zero.ensures.answer; written = c.before.before.run_from_zero.ensures.written }
 
 pub firanbekwo-run-spec : {M : Type 1} → statement M
 firanbekwo-run-spec = tie.close (tie.spec run-from-zero-requires same_length returns)

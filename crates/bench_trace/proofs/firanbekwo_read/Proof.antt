@@ -4,14 +4,14 @@ use Prim.Native.Nat.{ℕ}
 use borrow.Author.Rules.{rules}
 use Rattle.choice.specs.Tells.{Placed}
 use Rattle.trace.specs.declared.Filled.{Filled}
-use Rattle.trace.specs.Answers.{filledTells}
-use Rattle.bench_trace.specs.Filling.{filledOf}
+use Rattle.trace.specs.Answers.{filled_tells}
+use Rattle.bench_trace.specs.Filling.{filled_of}
 use Rattle.bench_trace.proofs.firanbekwo_read.Statement.{statement}
 use Rattle.bench_trace.proofs.firanbekwo_read.Tie as tie
 
 -- an answer that is known, and what it tells
-known-fills : (answer : Placed ℕ) (r known : Filled) → filledTells r ≡ answer → r ≡ known → filledOf (filledTells known) ≡ filledOf answer
-known-fills answer r known told e = ap filledOf (sym (ap filledTells e) ∙ told)
+known-fills : (answer : Placed ℕ) (r known : Filled) → filled_tells r ≡ answer → r ≡ known → filled_of (filled_tells known) ≡ filled_of answer
+known-fills answer r known told e = ap filled_of (sym (ap filled_tells e) ∙ told)
 
 read-requires : tie.Need-read-requires
 read-requires c κs = search rules

@@ -1,8 +1,8 @@
 -- `isa::encode` meets its contract: a family's number is its row's, and rows are narrow.
-use Rattle.isa.specs.Decision.{fillOf}
-use Rattle.isa.specs.Words.{encodeOf}
+use Rattle.isa.specs.Decision.{fill_of}
+use Rattle.isa.specs.Words.{encode_of}
 use Prim.Native.Nat.{◌<◌}
-use Rattle.isa.proofs.Families.{own_row, narrow-row, mark-small}
+use Rattle.isa.proofs.Families.{own_row, narrow_row, mark_small}
 use native.Mathlib.Omega.{arith}
 use borrow.Author.Rules.{rules}
 use Rattle.isa.proofs.encode.Statement.{statement}
@@ -21,10 +21,10 @@ mark-for-requires : tie.Need-mark-for-requires
 mark-for-requires c κs = search rules
 
 fill-requires : tie.Need-fill-requires
-fill-requires c κs = let i : c.before.before.number_of.result < 27 = omega (arith, c.before.before.number_of.ensures, (own_row c.before.before.before.args.named.family).0) in (omega (arith, c.mark-for.ensures, mark-small c.before.before.before.args.named.mode), narrow-row c.before.row_at.result c.before.before.number_of.result i c.before.row_at.ensures)
+fill-requires c κs = let i : c.before.before.number_of.result < 27 = omega (arith, c.before.before.number_of.ensures, (own_row c.before.before.before.args.named.family).0) in (omega (arith, c.mark-for.ensures, mark_small c.before.before.before.args.named.mode), narrow_row c.before.row_at.result c.before.before.number_of.result i c.before.row_at.ensures)
 
 returns : tie.Need-returns
-unfolding encodeOf fillOf
+unfolding encode_of fill_of
 returns c = rw (c.fill.ensures, c.before.mark-for.ensures, c.before.before.row_at.ensures, c.before.before.before.number_of.ensures)
 
 pub encode-spec : {M : Type 1} → statement M

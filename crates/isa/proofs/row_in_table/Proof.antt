@@ -4,8 +4,8 @@ use Prim.Native.Nat.{◌-◌}
 use borrow.Author.Rules.{rules}
 use Rattle.isa.specs.declared.Row.{Row}
 use Rattle.isa.specs.Table.{no_row}
-use Rattle.isa.specs.Decision.{takesWord}
-use Rattle.isa.proofs.Found.{Past, past-start, row-found, row-past, row-missed}
+use Rattle.isa.specs.Decision.{takes_word}
+use Rattle.isa.proofs.Found.{Past, past_start, row-found, row-past, row_missed}
 use Rattle.isa.proofs.row_in_table.Statement.{statement}
 use Rattle.isa.proofs.row_in_table.Tie as tie
 
@@ -16,7 +16,7 @@ abbrev decreases-loop : tie.decreases-loop
 decreases-loop word i₀ i = no_row - i
 
 loop-holds : tie.Need-loop-init invariant-loop decreases-loop
-loop-holds c = past-start c.args.word
+loop-holds c = past_start c.args.word
 
 cast-loop : tie.Need-overflow-cast-loop invariant-loop decreases-loop
 cast-loop c = search rules
@@ -31,7 +31,7 @@ returns : tie.Need-returns invariant-loop decreases-loop
 returns c =
     let start = c.before.before.before.before.before in
     row-found start.args.word _ c.before.before.before.before.loop.invariant c.before.before.before.loop-test.true _
-    (c.before.takes-word.ensures ∙ ap (λ (r : Row). takesWord r start.args.word) c.before.before.row_at.ensures) c.if1.true
+    (c.before.takes-word.ensures ∙ ap (λ (r : Row). takes_word r start.args.word) c.before.before.row_at.ensures) c.if1.true
 
 add-i : tie.Need-overflow-add-i invariant-loop decreases-loop
 add-i c = search rules
@@ -43,10 +43,10 @@ loop-again : tie.Need-loop-preserved invariant-loop decreases-loop
 loop-again c =
     let start = c.before.before.before.before.before in
     row-past start.args.word _ c.before.before.before.before.loop.invariant c.before.before.before.loop-test.true _
-    (c.before.takes-word.ensures ∙ ap (λ (r : Row). takesWord r start.args.word) c.before.before.row_at.ensures) c.if1.false
+    (c.before.takes-word.ensures ∙ ap (λ (r : Row). takes_word r start.args.word) c.before.before.row_at.ensures) c.if1.false
 
 returns-2 : tie.Need-returns-2 invariant-loop decreases-loop
-returns-2 c = row-missed c.before.before.args.word _ c.before.loop.invariant c.loop-test.false
+returns-2 c = row_missed c.before.before.args.word _ c.before.loop.invariant c.loop-test.false
 
 pub row-in-table-spec : {M : Type 1} → statement M
 row-in-table-spec =

@@ -1,5 +1,5 @@
 -- `isa::row_refusal` meets its contract: the rule that the number has is the row's.
-use Rattle.isa.proofs.Answers.{rule-read}
+use Rattle.isa.proofs.Answers.{rule_read}
 use borrow.Author.Rules.{rules}
 use Rattle.isa.proofs.row_refusal.Statement.{statement}
 use Rattle.isa.proofs.row_refusal.Tie as tie
@@ -20,7 +20,7 @@ rule-refusal-requires : tie.Need-rule-refusal-requires
 rule-refusal-requires c κs = search rules
 
 returns : tie.Need-returns
-returns c = rule-read c.before.before.before.before.before.args.word c.before.before.before.before.before.args.number c.before.before.before.before.rule-at.result _ c.before.before.before.before.rule-at.ensures (rw (← c.before.before.before.mark_of.ensures, ← c.before.before.field-a.ensures, ← c.before.field-b.ensures) c.rule-refusal.ensures)
+returns c = rule_read c.before.before.before.before.before.args.word c.before.before.before.before.before.args.number c.before.before.before.before.rule-at.result _ c.before.before.before.before.rule-at.ensures (rw (← c.before.before.before.mark_of.ensures, ← c.before.before.field-a.ensures, ← c.before.field-b.ensures) c.rule-refusal.ensures)
 
 pub row-refusal-spec : {M : Type 1} → statement M
 row-refusal-spec =

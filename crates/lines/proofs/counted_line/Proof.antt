@@ -2,7 +2,7 @@
 use native.Mathlib.Omega.{arith}
 use lib.ListN.{length-take}
 use borrow.Author.Rules.{rules}
-use Rattle.lines.proofs.Putting.{puts-both, line_made}
+use Rattle.lines.proofs.Putting.{puts_both, line_made}
 use Rattle.lines.proofs.counted_line.Statement.{statement}
 use Rattle.lines.proofs.counted_line.Tie as tie
 
@@ -31,7 +31,7 @@ same_length : tie.Need-same-length
 same_length c = search rules
 
 returns : tie.Need-returns
-returns c = line_made (puts-both c.before.before.before.before.before.before.before.before.before.put-text.ensures c.before.before.before.before.before.before.put-decimal.ensures.0) c.before.before.hand-over.ensures
+returns c = line_made (puts_both c.before.before.before.before.before.before.before.before.before.put-text.ensures c.before.before.before.before.before.before.put-decimal.ensures.0) c.before.before.hand_over.ensures
 
 pub counted-line-spec : {M : Type 1} → statement M
 counted-line-spec =

@@ -3,9 +3,9 @@ use mathlib.Core.List.{[], ◌∷◌}
 use native.Mathlib.Omega.{arith}
 use lib.ListN.{length-take}
 use borrow.Author.Rules.{rules}
-use Rattle.choice.specs.Text.{hex, decimal, digitOrNone}
-use Rattle.lines.specs.Lines.{cycleLine}
-use Rattle.lines.proofs.Putting.{puts-field, line_made}
+use Rattle.choice.specs.Text.{hex, decimal, digit_or_none}
+use Rattle.lines.specs.Lines.{cycle_line}
+use Rattle.lines.proofs.Putting.{puts_field, line_made}
 use Rattle.lines.proofs.cycle_line.Statement.{statement}
 use Rattle.lines.proofs.cycle_line.Tie as tie
 
@@ -52,15 +52,15 @@ same_length : tie.Need-same-length
 same_length c = search rules
 
 returns : tie.Need-returns
-unfolding cycleLine
+unfolding cycle_line
 returns c =
     let a = c.before.before.before.before.before.before.before.before.before.before.before.before.before.before.before.before.before.before.before.before.before.args in
     line_made
-    (puts-field (decimal a.number) c.before.before.before.before.before.before.before.before.before.before.before.before.before.before.before.before.before.before.put-decimal.ensures.0
-    (puts-field (hex 4 a.y) c.before.before.before.before.before.before.before.before.before.before.before.before.before.before.before.put_word.ensures.0
-    (puts-field (hex 4 a.mask) c.before.before.before.before.before.before.before.before.before.before.before.before.put-word2.ensures.0
-    (puts-field (digitOrNone 2 a.ct ∷ []) c.before.before.before.before.before.before.before.before.before.put-digit.ensures c.before.before.before.before.before.before.put-digit2.ensures))))
-    c.before.before.hand-over.ensures
+    (puts_field (decimal a.number) c.before.before.before.before.before.before.before.before.before.before.before.before.before.before.before.before.before.before.put-decimal.ensures.0
+    (puts_field (hex 4 a.y) c.before.before.before.before.before.before.before.before.before.before.before.before.before.before.before.put_word.ensures.0
+    (puts_field (hex 4 a.mask) c.before.before.before.before.before.before.before.before.before.before.before.before.put-word2.ensures.0
+    (puts_field (digit_or_none 2 a.ct ∷ []) c.before.before.before.before.before.before.before.before.before.put-digit.ensures c.before.before.before.before.before.before.put-digit2.ensures))))
+    c.before.before.hand_over.ensures
 
 pub cycle-line-spec : {M : Type 1} → statement M
 cycle-line-spec =

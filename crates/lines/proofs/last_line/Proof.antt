@@ -2,7 +2,7 @@
 use mathlib.Core.Path.{sym, subst}
 use borrow.Author.Rules.{rules}
 use Rattle.run.specs.declared.Ending.{Ending}
-use Rattle.lines.specs.Lines.{lastLine}
+use Rattle.lines.specs.Lines.{last_line}
 use Rattle.lines.specs.Answers.{Makes}
 use Rattle.lines.proofs.last_line.Statement.{statement}
 use Rattle.lines.proofs.last_line.Tie as tie
@@ -38,28 +38,28 @@ same_length : tie.Need-same-length
 same_length c = search rules
 
 returns : tie.Need-returns
-unfolding lastLine
+unfolding last_line
 returns c =
     let start = c.before.before.before.before.before.before.before.before in
-    subst (λ (e : Ending). Makes (lastLine e start.args.accepted) c.before.before.counted-line.result start.args.out.now c.before.before.counted-line.new.1.1.0) (sym c.before.before.before.before.before.enum_told.given.1) c.before.before.counted-line.ensures
+    subst (λ (e : Ending). Makes (last_line e start.args.accepted) c.before.before.counted-line.result start.args.out.now c.before.before.counted-line.new.1.1.0) (sym c.before.before.before.before.before.enum_told.given.1) c.before.before.counted-line.ensures
 
 same-length-2 : tie.Need-same-length-2
 same-length-2 c = search rules
 
 returns-2 : tie.Need-returns-2
-unfolding lastLine
+unfolding last_line
 returns-2 c =
     let start = c.before.before.before.before.before.before.before.before in
-    subst (λ (e : Ending). Makes (lastLine e start.args.accepted) c.before.before.counted-line2.result start.args.out.now c.before.before.counted-line2.new.1.1.0) (sym c.before.before.before.before.before.enum-told2.given.1) c.before.before.counted-line2.ensures
+    subst (λ (e : Ending). Makes (last_line e start.args.accepted) c.before.before.counted-line2.result start.args.out.now c.before.before.counted-line2.new.1.1.0) (sym c.before.before.before.before.before.enum-told2.given.1) c.before.before.counted-line2.ensures
 
 same-length-3 : tie.Need-same-length-3
 same-length-3 c = search rules
 
 returns-3 : tie.Need-returns-3
-unfolding lastLine
+unfolding last_line
 returns-3 c =
     let start = c.before.before.before.before.before.before.before.before in
-    subst (λ (e : Ending). Makes (lastLine e start.args.accepted) c.before.before.refused-line.result start.args.out.now c.before.before.refused-line.new.1.1.0) (sym c.before.before.before.before.before.ending.given.1) c.before.before.refused-line.ensures
+    subst (λ (e : Ending). Makes (last_line e start.args.accepted) c.before.before.refused-line.result start.args.out.now c.before.before.refused-line.new.1.1.0) (sym c.before.before.before.before.before.ending.given.1) c.before.before.refused-line.ensures
 
 pub last-line-spec : {M : Type 1} → statement M
 last-line-spec =

@@ -7,7 +7,7 @@ use borrow.Author.Rules.{rules}
 use Rattle.choice.specs.Text.{newline}
 use Rattle.machine.specs.declared.Waiting.{Waiting}
 use Rattle.lines.specs.Putting.{Puts}
-use Rattle.lines.specs.Lines.{waitingText}
+use Rattle.lines.specs.Lines.{waiting_text}
 use Rattle.lines.proofs.put_waiting.Statement.{statement}
 use Rattle.lines.proofs.put_waiting.Tie as tie
 
@@ -32,7 +32,7 @@ same_length c = search rules
 returns : tie.Need-returns
 returns c =
     let start = c.before.before.before.before.before.before.before.before in (
-      subst (λ (w : Waiting). Puts (waitingText w ++ newline ∷ []) start.args.at c.before.before.put-text.result start.args.line.now c.before.before.put-text.new.1.1.0) (sym c.before.before.before.before.before.enum_told.given.1) c.before.before.put-text.ensures,
+      subst (λ (w : Waiting). Puts (waiting_text w ++ newline ∷ []) start.args.at c.before.before.put-text.result start.args.line.now c.before.before.put-text.new.1.1.0) (sym c.before.before.before.before.before.enum_told.given.1) c.before.before.put-text.ensures,
       omega (arith, c.before.before.put-text.ensures.end),
     )
 
@@ -42,7 +42,7 @@ same-length-2 c = search rules
 returns-2 : tie.Need-returns-2
 returns-2 c =
     let start = c.before.before.before.before.before.before.before.before in (
-      subst (λ (w : Waiting). Puts (waitingText w ++ newline ∷ []) start.args.at c.before.before.put_word.result start.args.line.now c.before.before.put_word.new.1.1.1.0) (sym c.before.before.before.before.before.waiting.given.1) c.before.before.put_word.ensures.0,
+      subst (λ (w : Waiting). Puts (waiting_text w ++ newline ∷ []) start.args.at c.before.before.put_word.result start.args.line.now c.before.before.put_word.new.1.1.1.0) (sym c.before.before.before.before.before.waiting.given.1) c.before.before.put_word.ensures.0,
       omega (arith, c.before.before.put_word.ensures.1),
     )
 

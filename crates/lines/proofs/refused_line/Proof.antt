@@ -4,8 +4,8 @@ use native.Mathlib.Omega.{arith}
 use lib.ListN.{length-take}
 use borrow.Author.Rules.{rules}
 use Rattle.choice.specs.Text.{decimal}
-use Rattle.lines.specs.Lines.{refusedLine}
-use Rattle.lines.proofs.Putting.{puts-field, line_made}
+use Rattle.lines.specs.Lines.{refused_line}
+use Rattle.lines.proofs.Putting.{puts_field, line_made}
 use Rattle.lines.proofs.refused_line.Statement.{statement}
 use Rattle.lines.proofs.refused_line.Tie as tie
 
@@ -52,14 +52,14 @@ same_length : tie.Need-same-length
 same_length c = search rules
 
 returns : tie.Need-returns
-unfolding refusedLine
+unfolding refused_line
 returns c =
     let a = c.before.before.before.before.before.before.before.before.before.before.before.before.before.before.before.before.before.before.before.before.args in
     line_made
-    (puts-field (114 ∷ 101 ∷ 102 ∷ 117 ∷ 115 ∷ 101 ∷ 100 ∷ []) c.before.before.before.before.before.before.before.before.before.before.before.before.before.before.before.before.put-text.ensures
-    (puts-field (decimal a.number) c.before.before.before.before.before.before.before.before.before.before.before.before.before.put-decimal.ensures.0
-    (puts-field (97 ∷ 116 ∷ []) c.before.before.before.before.before.before.before.before.before.put-text2.ensures c.before.before.before.before.before.before.put-decimal2.ensures.0)))
-    c.before.before.hand-over.ensures
+    (puts_field (114 ∷ 101 ∷ 102 ∷ 117 ∷ 115 ∷ 101 ∷ 100 ∷ []) c.before.before.before.before.before.before.before.before.before.before.before.before.before.before.before.before.put-text.ensures
+    (puts_field (decimal a.number) c.before.before.before.before.before.before.before.before.before.before.before.before.before.put-decimal.ensures.0
+    (puts_field (97 ∷ 116 ∷ []) c.before.before.before.before.before.before.before.before.before.put-text2.ensures c.before.before.before.before.before.before.put-decimal2.ensures.0)))
+    c.before.before.hand_over.ensures
 
 pub refused-line-spec : {M : Type 1} → statement M
 refused-line-spec =

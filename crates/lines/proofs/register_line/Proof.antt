@@ -8,18 +8,18 @@ use borrow.Author.Tests.{eq-eqb, ne_eqb}
 use borrow.Author.Rules.{rules}
 use Rattle.choice.specs.Text.{numeral, hex}
 use Rattle.choice.proofs.Picks.{picked, unpicked}
-use Rattle.lines.specs.Lines.{line_of, registerLine}
-use Rattle.lines.proofs.Answered.{made_all, makes-as}
-use Rattle.lines.proofs.Putting.{puts-both, puts-field, line_made}
+use Rattle.lines.specs.Lines.{line_of, register_line}
+use Rattle.lines.proofs.Answered.{made_all, makes_as}
+use Rattle.lines.proofs.Putting.{puts_both, puts_field, line_made}
 use Rattle.lines.proofs.register_line.Statement.{statement}
 use Rattle.lines.proofs.register_line.Tie as tie
 
 returns : tie.Need-returns
-unfolding registerLine
+unfolding register_line
 returns c =
     let a = c.before.before.args in
-    let none : registerLine a.number a.value ≡ [] = picked (eqb a.value 0) [] (line_of (114 ∷ numeral 10 2 a.number) (hex 4 a.value ∷ [])) (eq-eqb a.value 0 c.if1.true) in
-    makes-as (sym none) (made_all 0 a.out.now (omega arith) refl refl)
+    let none : register_line a.number a.value ≡ [] = picked (eqb a.value 0) [] (line_of (114 ∷ numeral 10 2 a.number) (hex 4 a.value ∷ [])) (eq-eqb a.value 0 c.if1.true) in
+    makes_as (sym none) (made_all 0 a.out.now (omega arith) refl refl)
 
 slice-aggregate-put-text : tie.Need-slice-aggregate-put-text
 slice-aggregate-put-text c = search rules
@@ -55,13 +55,13 @@ same_length : tie.Need-same-length
 same_length c = search rules
 
 returns-2 : tie.Need-returns-2
-unfolding registerLine
+unfolding register_line
 returns-2 c =
     let a = c.before.before.before.before.before.before.before.before.before.before.before.before.before.before.before.before.before.args in
-    let some : line_of (114 ∷ numeral 10 2 a.number) (hex 4 a.value ∷ []) ≡ registerLine a.number a.value =
+    let some : line_of (114 ∷ numeral 10 2 a.number) (hex 4 a.value ∷ []) ≡ register_line a.number a.value =
     sym (unpicked (eqb a.value 0) [] (line_of (114 ∷ numeral 10 2 a.number) (hex 4 a.value ∷ [])) (ne_eqb a.value 0 c.before.before.before.before.before.before.before.before.before.before.before.before.before.before.before.if1.false)) in
-    makes-as some
-    (line_made (puts-field (114 ∷ numeral 10 2 a.number) (puts-both c.before.before.before.before.before.before.before.before.before.before.before.before.put-text.ensures c.before.before.before.before.before.before.before.before.before.put-numeral.ensures.0) c.before.before.before.before.before.before.put_word.ensures.0) c.before.before.hand-over.ensures)
+    makes_as some
+    (line_made (puts_field (114 ∷ numeral 10 2 a.number) (puts_both c.before.before.before.before.before.before.before.before.before.before.before.before.put-text.ensures c.before.before.before.before.before.before.before.before.before.put-numeral.ensures.0) c.before.before.before.before.before.before.put_word.ensures.0) c.before.before.hand_over.ensures)
 
 pub register-line-spec : {M : Type 1} → statement M
 register-line-spec =

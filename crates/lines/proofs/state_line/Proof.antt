@@ -4,8 +4,8 @@ use native.Mathlib.Omega.{arith}
 use lib.ListN.{length-take}
 use borrow.Author.Rules.{rules}
 use Rattle.choice.specs.Text.{hex}
-use Rattle.lines.specs.Lines.{stateLine}
-use Rattle.lines.proofs.Putting.{puts-field, line_made}
+use Rattle.lines.specs.Lines.{state_line}
+use Rattle.lines.proofs.Putting.{puts_field, line_made}
 use Rattle.lines.proofs.state_line.Statement.{statement}
 use Rattle.lines.proofs.state_line.Tie as tie
 
@@ -85,18 +85,18 @@ same_length : tie.Need-same-length
 same_length c = search rules
 
 returns : tie.Need-returns
-unfolding stateLine hex
+unfolding state_line hex
 returns c =
     let a = c.before.before.before.before.before.before.before.before.before.before.before.before.before.before.before.before.before.before.before.before.before.before.before.before.before.before.before.before.before.before.before.before.before.before.before.args.registers in
     line_made
-    (puts-field (97 ∷ 99 ∷ 99 ∷ []) c.before.before.before.before.before.before.before.before.before.before.before.before.before.before.before.before.before.before.before.before.before.before.before.before.before.before.before.before.before.before.before.put-text.ensures
-    (puts-field (hex 4 a.acc) c.before.before.before.before.before.before.before.before.before.before.before.before.before.before.before.before.before.before.before.before.before.before.before.before.before.before.before.before.put_word.ensures.0
-    (puts-field (100 ∷ []) c.before.before.before.before.before.before.before.before.before.before.before.before.before.before.before.before.before.before.before.before.before.before.before.before.put-text2.ensures
-    (puts-field (hex 4 a.latch) c.before.before.before.before.before.before.before.before.before.before.before.before.before.before.before.before.before.before.before.before.before.put-word2.ensures.0
-    (puts-field (115 ∷ 116 ∷ []) c.before.before.before.before.before.before.before.before.before.before.before.before.before.before.before.before.before.put-text3.ensures
-    (puts-field (hex 2 a.status) c.before.before.before.before.before.before.before.before.before.before.before.before.before.put-numeral.ensures.0
-    (puts-field (119 ∷ 97 ∷ 105 ∷ 116 ∷ []) c.before.before.before.before.before.before.before.before.before.put-text4.ensures c.before.before.before.before.before.before.put-waiting.ensures.0)))))))
-    c.before.before.hand-over.ensures
+    (puts_field (97 ∷ 99 ∷ 99 ∷ []) c.before.before.before.before.before.before.before.before.before.before.before.before.before.before.before.before.before.before.before.before.before.before.before.before.before.before.before.before.before.before.before.put-text.ensures
+    (puts_field (hex 4 a.acc) c.before.before.before.before.before.before.before.before.before.before.before.before.before.before.before.before.before.before.before.before.before.before.before.before.before.before.before.before.put_word.ensures.0
+    (puts_field (100 ∷ []) c.before.before.before.before.before.before.before.before.before.before.before.before.before.before.before.before.before.before.before.before.before.before.before.before.put-text2.ensures
+    (puts_field (hex 4 a.latch) c.before.before.before.before.before.before.before.before.before.before.before.before.before.before.before.before.before.before.before.before.before.put-word2.ensures.0
+    (puts_field (115 ∷ 116 ∷ []) c.before.before.before.before.before.before.before.before.before.before.before.before.before.before.before.before.before.put-text3.ensures
+    (puts_field (hex 2 a.status) c.before.before.before.before.before.before.before.before.before.before.before.before.before.put-numeral.ensures.0
+    (puts_field (119 ∷ 97 ∷ 105 ∷ 116 ∷ []) c.before.before.before.before.before.before.before.before.before.put-text4.ensures c.before.before.before.before.before.before.put-waiting.ensures.0)))))))
+    c.before.before.hand_over.ensures
 
 pub state-line-spec : {M : Type 1} → statement M
 state-line-spec =

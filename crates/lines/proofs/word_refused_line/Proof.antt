@@ -1,5 +1,5 @@
 -- `lines::word_refused_line` meets its contract: a counted line.
-use Rattle.lines.specs.Lines.{wordRefusedLine}
+use Rattle.lines.specs.Lines.{word_refused_line}
 use borrow.Author.Rules.{rules}
 use Rattle.lines.proofs.word_refused_line.Statement.{statement}
 use Rattle.lines.proofs.word_refused_line.Tie as tie
@@ -21,7 +21,7 @@ same_length c = search rules
 
 -- src/lib.rt:144:1
 returns : tie.Need-returns
-unfolding wordRefusedLine
+unfolding word_refused_line
 returns c = c.before.before.counted-line.ensures
 
 pub word-refused-line-spec : {M : Type 1} → statement M

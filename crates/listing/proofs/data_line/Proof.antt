@@ -1,6 +1,6 @@
 -- `listing::data_line` meets its contract.
 use Rattle.listing.proofs.Hex.{data-short, data-filled, key-data, data-long}
-use Rattle.listing.specs.Keys.{textOfKey}
+use Rattle.listing.specs.Keys.{text_of_key}
 use lib.Seq.{sets}
 use native.Mathlib.Omega.{arith}
 use mathlib.Core.Path.{ap, ◌∙◌}
@@ -30,7 +30,7 @@ same_length c = search rules
 
 -- src/lib.rt:180:1
 returns-2 : tie.Need-returns-2
-returns-2 c = data-filled c.before.before.before.before.before.before.before.args.operand c.before.before.before.before.before.before.before.args.out.now _ c.before.before.before.before.before.if1.false (c.before.before.put.ensures.written ∙ ap (sets c.before.before.before.before.before.before.before.args.out.now 0) (ap textOfKey c.before.before.before.before.key-of-data.ensures ∙ key-data c.before.before.before.before.before.before.before.args.operand))
+returns-2 c = data-filled c.before.before.before.before.before.before.before.args.operand c.before.before.before.before.before.before.before.args.out.now _ c.before.before.before.before.before.if1.false (c.before.before.put.ensures.written ∙ ap (sets c.before.before.before.before.before.before.before.args.out.now 0) (ap text_of_key c.before.before.before.before.key-of-data.ensures ∙ key-data c.before.before.before.before.before.before.before.args.operand))
 
 pub data-line-spec : {M : Type 1} → statement M
 data-line-spec =

@@ -83,19 +83,19 @@ finish-requires c κs = value-bound c.before.before.before.before.before.before.
 
 -- src/lib.rt:138:1
 returns : tie.Need-returns
-returns c = way_a c.before.before.before.before.before.before.before.before.args.line.now c.before.before.before.before.before.before.before.before.args.at c.before.before.before.before.before.before.before.before.args.number c.before.before.before.before.before.before.before.before.args.mark c.before.before.before.before.before.before.before.before.requires.1 c.before.before.before.before.before.before.numbered-row.result c.before.before.before.before.before.before.numbered-row.ensures c.before.before.before.before.before.place-a.result c.before.before.before.before.before.place-a.ensures c.before.before.before.field.result c.before.before.before.field.ensures c.before.refusal.given.0.0 c.before.refusal.given.0.1.0 c.before.refusal.given.1
+returns c = way_a c.before.before.before.before.before.before.before.before.args.line.now c.before.before.before.before.before.before.before.before.args.at c.before.before.before.before.before.before.before.before.args.number c.before.before.before.before.before.before.before.before.args.mark c.before.before.before.before.before.before.before.before.requires.1 c.before.before.before.before.before.before.numbered_row.result c.before.before.before.before.before.before.numbered_row.ensures c.before.before.before.before.before.place-a.result c.before.before.before.before.before.place-a.ensures c.before.before.before.field.result c.before.before.before.field.ensures c.before.refusal.given.0.0 c.before.refusal.given.0.1.0 c.before.refusal.given.1
 
 -- src/lib.rt:138:1
 returns-2 : tie.Need-returns-2
-returns-2 c = way-b c.before.before.before.before.before.before.before.before.before.before.before.before.before.before.args.line.now c.before.before.before.before.before.before.before.before.before.before.before.before.before.before.args.at c.before.before.before.before.before.before.before.before.before.before.before.before.before.before.args.number c.before.before.before.before.before.before.before.before.before.before.before.before.before.before.args.mark c.before.before.before.before.before.before.before.before.before.before.before.before.before.before.requires.1 c.before.before.before.before.before.before.before.before.before.before.before.before.numbered-row.result c.before.before.before.before.before.before.before.before.before.before.before.before.numbered-row.ensures c.before.before.before.before.before.before.before.before.before.before.before.place-a.result c.before.before.before.before.before.before.before.before.before.before.before.place-a.ensures c.before.before.before.before.before.before.before.before.before.field.result c.before.before.before.before.before.before.before.before.before.field.ensures c.before.before.before.before.before.before.before.a.given.0.0 c.before.before.before.before.before.before.before.a.given.0.1.0 c.before.before.before.before.before.before.before.a.given.1 c.before.before.before.before.before.place-b.result c.before.before.before.before.before.place-b.ensures c.before.before.before.field2.result c.before.before.before.field2.ensures c.before.refusal2.given.0.0 c.before.refusal2.given.0.1.0 c.before.refusal2.given.1
+returns-2 c = way-b c.before.before.before.before.before.before.before.before.before.before.before.before.before.before.args.line.now c.before.before.before.before.before.before.before.before.before.before.before.before.before.before.args.at c.before.before.before.before.before.before.before.before.before.before.before.before.before.before.args.number c.before.before.before.before.before.before.before.before.before.before.before.before.before.before.args.mark c.before.before.before.before.before.before.before.before.before.before.before.before.before.before.requires.1 c.before.before.before.before.before.before.before.before.before.before.before.before.numbered_row.result c.before.before.before.before.before.before.before.before.before.before.before.before.numbered_row.ensures c.before.before.before.before.before.before.before.before.before.before.before.place-a.result c.before.before.before.before.before.before.before.before.before.before.before.place-a.ensures c.before.before.before.before.before.before.before.before.before.field.result c.before.before.before.before.before.before.before.before.before.field.ensures c.before.before.before.before.before.before.before.a.given.0.0 c.before.before.before.before.before.before.before.a.given.0.1.0 c.before.before.before.before.before.before.before.a.given.1 c.before.before.before.before.before.place-b.result c.before.before.before.before.before.place-b.ensures c.before.before.before.field2.result c.before.before.before.field2.ensures c.before.refusal2.given.0.0 c.before.refusal2.given.0.1.0 c.before.refusal2.given.1
 
 -- src/lib.rt:138:1
 returns-3 : tie.Need-returns-3
-returns-3 c = way-c c.before.before.before.before.before.before.before.before.before.before.before.before.before.before.before.before.before.before.before.args.line.now c.before.before.before.before.before.before.before.before.before.before.before.before.before.before.before.before.before.before.before.args.at c.before.before.before.before.before.before.before.before.before.before.before.before.before.before.before.before.before.before.before.args.number c.before.before.before.before.before.before.before.before.before.before.before.before.before.before.before.before.before.before.before.args.mark c.before.before.before.before.before.before.before.before.before.before.before.before.before.before.before.before.before.before.before.requires.1 c.before.before.before.before.before.before.before.before.before.before.before.before.before.before.before.before.before.numbered-row.result c.before.before.before.before.before.before.before.before.before.before.before.before.before.before.before.before.before.numbered-row.ensures c.before.before.before.before.before.before.before.before.before.before.before.before.before.before.before.before.place-a.result c.before.before.before.before.before.before.before.before.before.before.before.before.before.before.before.before.place-a.ensures c.before.before.before.before.before.before.before.before.before.before.before.before.before.before.field.result c.before.before.before.before.before.before.before.before.before.before.before.before.before.before.field.ensures c.before.before.before.before.before.before.before.before.before.before.before.before.a.given.0.0 c.before.before.before.before.before.before.before.before.before.before.before.before.a.given.0.1.0 c.before.before.before.before.before.before.before.before.before.before.before.before.a.given.1 c.before.before.before.before.before.before.before.before.before.before.place-b.result c.before.before.before.before.before.before.before.before.before.before.place-b.ensures c.before.before.before.before.before.before.before.before.field2.result c.before.before.before.before.before.before.before.before.field2.ensures c.before.before.before.before.before.before.b.given.0.0 c.before.before.before.before.before.before.b.given.0.1.0 c.before.before.before.before.before.before.b.given.1 c.before.before.before.before.place-c.result c.before.before.before.before.place-c.ensures c.before.before.before.field3.result c.before.before.before.field3.ensures c.before.refusal3.given.0.0 c.before.refusal3.given.0.1.0 c.before.refusal3.given.1
+returns-3 c = way-c c.before.before.before.before.before.before.before.before.before.before.before.before.before.before.before.before.before.before.before.args.line.now c.before.before.before.before.before.before.before.before.before.before.before.before.before.before.before.before.before.before.before.args.at c.before.before.before.before.before.before.before.before.before.before.before.before.before.before.before.before.before.before.before.args.number c.before.before.before.before.before.before.before.before.before.before.before.before.before.before.before.before.before.before.before.args.mark c.before.before.before.before.before.before.before.before.before.before.before.before.before.before.before.before.before.before.before.requires.1 c.before.before.before.before.before.before.before.before.before.before.before.before.before.before.before.before.before.numbered_row.result c.before.before.before.before.before.before.before.before.before.before.before.before.before.before.before.before.before.numbered_row.ensures c.before.before.before.before.before.before.before.before.before.before.before.before.before.before.before.before.place-a.result c.before.before.before.before.before.before.before.before.before.before.before.before.before.before.before.before.place-a.ensures c.before.before.before.before.before.before.before.before.before.before.before.before.before.before.field.result c.before.before.before.before.before.before.before.before.before.before.before.before.before.before.field.ensures c.before.before.before.before.before.before.before.before.before.before.before.before.a.given.0.0 c.before.before.before.before.before.before.before.before.before.before.before.before.a.given.0.1.0 c.before.before.before.before.before.before.before.before.before.before.before.before.a.given.1 c.before.before.before.before.before.before.before.before.before.before.place-b.result c.before.before.before.before.before.before.before.before.before.before.place-b.ensures c.before.before.before.before.before.before.before.before.field2.result c.before.before.before.before.before.before.before.before.field2.ensures c.before.before.before.before.before.before.b.given.0.0 c.before.before.before.before.before.before.b.given.0.1.0 c.before.before.before.before.before.before.b.given.1 c.before.before.before.before.place-c.result c.before.before.before.before.place-c.ensures c.before.before.before.field3.result c.before.before.before.field3.ensures c.before.refusal3.given.0.0 c.before.refusal3.given.0.1.0 c.before.refusal3.given.1
 
 -- src/lib.rt:138:1
 returns-4 : tie.Need-returns-4
-returns-4 c = way_end c.before.before.before.before.before.before.before.before.before.before.before.before.before.before.before.before.before.before.before.before.before.args.line.now c.before.before.before.before.before.before.before.before.before.before.before.before.before.before.before.before.before.before.before.before.before.args.at c.before.before.before.before.before.before.before.before.before.before.before.before.before.before.before.before.before.before.before.before.before.args.number c.before.before.before.before.before.before.before.before.before.before.before.before.before.before.before.before.before.before.before.before.before.args.mark c.before.before.before.before.before.before.before.before.before.before.before.before.before.before.before.before.before.before.before.before.before.requires.1 c.before.before.before.before.before.before.before.before.before.before.before.before.before.before.before.before.before.before.before.numbered-row.result c.before.before.before.before.before.before.before.before.before.before.before.before.before.before.before.before.before.before.before.numbered-row.ensures c.before.before.before.before.before.before.before.before.before.before.before.before.before.before.before.before.before.before.place-a.result c.before.before.before.before.before.before.before.before.before.before.before.before.before.before.before.before.before.before.place-a.ensures c.before.before.before.before.before.before.before.before.before.before.before.before.before.before.before.before.field.result c.before.before.before.before.before.before.before.before.before.before.before.before.before.before.before.before.field.ensures c.before.before.before.before.before.before.before.before.before.before.before.before.before.before.a.given.0.0 c.before.before.before.before.before.before.before.before.before.before.before.before.before.before.a.given.0.1.0 c.before.before.before.before.before.before.before.before.before.before.before.before.before.before.a.given.1 c.before.before.before.before.before.before.before.before.before.before.before.before.place-b.result c.before.before.before.before.before.before.before.before.before.before.before.before.place-b.ensures c.before.before.before.before.before.before.before.before.before.before.field2.result c.before.before.before.before.before.before.before.before.before.before.field2.ensures c.before.before.before.before.before.before.before.before.b.given.0.0 c.before.before.before.before.before.before.before.before.b.given.0.1.0 c.before.before.before.before.before.before.before.before.b.given.1 c.before.before.before.before.before.before.place-c.result c.before.before.before.before.before.before.place-c.ensures c.before.before.before.before.before.field3.result c.before.before.before.before.before.field3.ensures c.before.before.before.c.given.0.0 c.before.before.before.c.given.0.1.0 c.before.before.before.c.given.1 c.before.Mode-of.result c.before.Mode-of.ensures c.finish.result c.finish.ensures
+returns-4 c = way_end c.before.before.before.before.before.before.before.before.before.before.before.before.before.before.before.before.before.before.before.before.before.args.line.now c.before.before.before.before.before.before.before.before.before.before.before.before.before.before.before.before.before.before.before.before.before.args.at c.before.before.before.before.before.before.before.before.before.before.before.before.before.before.before.before.before.before.before.before.before.args.number c.before.before.before.before.before.before.before.before.before.before.before.before.before.before.before.before.before.before.before.before.before.args.mark c.before.before.before.before.before.before.before.before.before.before.before.before.before.before.before.before.before.before.before.before.before.requires.1 c.before.before.before.before.before.before.before.before.before.before.before.before.before.before.before.before.before.before.before.numbered_row.result c.before.before.before.before.before.before.before.before.before.before.before.before.before.before.before.before.before.before.before.numbered_row.ensures c.before.before.before.before.before.before.before.before.before.before.before.before.before.before.before.before.before.before.place-a.result c.before.before.before.before.before.before.before.before.before.before.before.before.before.before.before.before.before.before.place-a.ensures c.before.before.before.before.before.before.before.before.before.before.before.before.before.before.before.before.field.result c.before.before.before.before.before.before.before.before.before.before.before.before.before.before.before.before.field.ensures c.before.before.before.before.before.before.before.before.before.before.before.before.before.before.a.given.0.0 c.before.before.before.before.before.before.before.before.before.before.before.before.before.before.a.given.0.1.0 c.before.before.before.before.before.before.before.before.before.before.before.before.before.before.a.given.1 c.before.before.before.before.before.before.before.before.before.before.before.before.place-b.result c.before.before.before.before.before.before.before.before.before.before.before.before.place-b.ensures c.before.before.before.before.before.before.before.before.before.before.field2.result c.before.before.before.before.before.before.before.before.before.before.field2.ensures c.before.before.before.before.before.before.before.before.b.given.0.0 c.before.before.before.before.before.before.before.before.b.given.0.1.0 c.before.before.before.before.before.before.before.before.b.given.1 c.before.before.before.before.before.before.place-c.result c.before.before.before.before.before.before.place-c.ensures c.before.before.before.before.before.field3.result c.before.before.before.before.before.field3.ensures c.before.before.before.c.given.0.0 c.before.before.before.c.given.0.1.0 c.before.before.before.c.given.1 c.before.Mode-of.result c.before.Mode-of.ensures c.finish.result c.finish.ensures
 
 pub fields-spec : {M : Type 1} → statement M
 fields-spec =

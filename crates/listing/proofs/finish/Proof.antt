@@ -2,11 +2,11 @@
 use mathlib.Core.Path.{sym, ap, ◌∙◌}
 use Prim.Native.Nat.{ℕ, suc}
 use lib.ListN.{length}
-use Rattle.choice.specs.Tells.{Tells, refusedAt}
-use Rattle.isa.specs.Words.{encodedTells}
+use Rattle.choice.specs.Tells.{Tells, refused_at}
+use Rattle.isa.specs.Words.{encoded_tells}
 use Rattle.listing.specs.Lines.{encoded}
-use Rattle.listing.specs.Reading.{itemsAt}
-use Rattle.listing.proofs.Finds.{ended-left, ended-none}
+use Rattle.listing.specs.Reading.{items_at}
+use Rattle.listing.proofs.Finds.{ended_left, ended_none}
 use borrow.Author.Rules.{rules}
 use Rattle.listing.proofs.finish.Statement.{statement}
 use Rattle.listing.proofs.finish.Tie as tie
@@ -21,7 +21,7 @@ next-requires c κs = search rules
 
 -- src/lib.rt:186:9
 returns : tie.Need-returns
-returns c = ap (refusedAt 22) c.before.next.ensures.column ∙ ended-left (suc (length c.before.before.before.args.line.now)) (itemsAt c.before.before.before.args.line.now c.before.before.before.args.at) (encoded c.before.before.before.args.named) (sym c.before.next.ensures.found ∙ c.if1.true)
+returns c = ap (refused_at 22) c.before.next.ensures.column ∙ ended_left (suc (length c.before.before.before.args.line.now)) (items_at c.before.before.before.args.line.now c.before.before.before.args.at) (encoded c.before.before.before.args.named) (sym c.before.next.ensures.found ∙ c.if1.true)
 
 -- src/lib.rt:188:11
 encode-requires : tie.Need-encode-requires
@@ -37,11 +37,11 @@ enum-known-number c = search rules
 
 -- src/lib.rt:180:1
 returns-2 : tie.Need-returns-2
-returns-2 c = ap (λ (t : Tells ℕ). record { told = t; index = 0 }) (ap encodedTells (sym c.before.word.given.1) ∙ c.before.before.before.encode.ensures) ∙ ended-none (itemsAt c.before.before.before.before.before.before.before.args.line.now c.before.before.before.before.before.before.before.args.at) (encoded c.before.before.before.before.before.before.before.args.named) (sym c.before.before.before.before.before.next.ensures.found ∙ c.before.before.before.before.if1.false)
+returns-2 c = ap (λ (t : Tells ℕ). record { told = t; index = 0 }) (ap encoded_tells (sym c.before.word.given.1) ∙ c.before.before.before.encode.ensures) ∙ ended_none (items_at c.before.before.before.before.before.before.before.args.line.now c.before.before.before.before.before.before.before.args.at) (encoded c.before.before.before.before.before.before.before.args.named) (sym c.before.before.before.before.before.next.ensures.found ∙ c.before.before.before.before.if1.false)
 
 -- src/lib.rt:180:1
 returns-3 : tie.Need-returns-3
-returns-3 c = ap (λ (t : Tells ℕ). record { told = t; index = 0 }) (ap encodedTells (sym c.before.number.given.1) ∙ c.before.before.before.encode.ensures) ∙ ended-none (itemsAt c.before.before.before.before.before.before.before.args.line.now c.before.before.before.before.before.before.before.args.at) (encoded c.before.before.before.before.before.before.before.args.named) (sym c.before.before.before.before.before.next.ensures.found ∙ c.before.before.before.before.if1.false)
+returns-3 c = ap (λ (t : Tells ℕ). record { told = t; index = 0 }) (ap encoded_tells (sym c.before.number.given.1) ∙ c.before.before.before.encode.ensures) ∙ ended_none (items_at c.before.before.before.before.before.before.before.args.line.now c.before.before.before.before.before.before.before.args.at) (encoded c.before.before.before.before.before.before.before.args.named) (sym c.before.before.before.before.before.next.ensures.found ∙ c.before.before.before.before.if1.false)
 
 pub finish_spec : {M : Type 1} → statement M
 finish_spec =

@@ -1,8 +1,8 @@
 -- `listing::line_of` meets its contract.
 use Rattle.listing.proofs.Prints.{refused-out, short-out, filled-out}
-use Rattle.listing.specs.Keys.{keysLine}
+use Rattle.listing.specs.Keys.{keys_line}
 use Rattle.listing.specs.declared.Keys.{Keys}
-use Rattle.isa.specs.Words.{decodedTells}
+use Rattle.isa.specs.Words.{decoded_tells}
 use lib.Seq.{sets}
 use lib.ListN.{length}
 use native.Mathlib.Omega.{arith}
@@ -39,7 +39,7 @@ line-size-requires c κs = search rules
 
 -- src/lib.rt:108:17
 returns : tie.Need-returns
-returns c = short-out c.before.before.before.before.before.before.before.before.args.word (omega arith) c.before.before.before.before.before.before.before.before.args.out.now c.before.before.before.before.named.given.0.0 (ap decodedTells (sym c.before.before.before.before.named.given.1) ∙ c.before.before.before.before.before.before.decode.ensures) (omega (arith, c.if1.true, c.before.line-size.ensures ∙ ap (λ (k : Keys). length (keysLine k)) c.before.before.keys_of.ensures))
+returns c = short-out c.before.before.before.before.before.before.before.before.args.word (omega arith) c.before.before.before.before.before.before.before.before.args.out.now c.before.before.before.before.named.given.0.0 (ap decoded_tells (sym c.before.before.before.before.named.given.1) ∙ c.before.before.before.before.before.before.decode.ensures) (omega (arith, c.if1.true, c.before.line-size.ensures ∙ ap (λ (k : Keys). length (keys_line k)) c.before.before.keys_of.ensures))
 
 -- src/lib.rt:110:13
 put-line-requires : tie.Need-put-line-requires
@@ -47,7 +47,7 @@ put-line-requires c κs = search rules
 
 -- src/lib.rt:99:1
 returns-2 : tie.Need-returns-2
-returns-2 c = refused-out c.before.before.before.before.before.args.word (omega arith) c.before.before.before.before.before.args.out.now c.before.number.given.0.0 (ap decodedTells (sym c.before.number.given.1) ∙ c.before.before.before.decode.ensures)
+returns-2 c = refused-out c.before.before.before.before.before.args.word (omega arith) c.before.before.before.before.before.args.out.now c.before.number.given.0.0 (ap decoded_tells (sym c.before.number.given.1) ∙ c.before.before.before.decode.ensures)
 
 -- src/lib.rt:99:1
 same_length : tie.Need-same-length
@@ -55,7 +55,7 @@ same_length c = search rules
 
 -- src/lib.rt:99:1
 returns-3 : tie.Need-returns-3
-returns-3 c = filled-out c.before.before.before.before.before.before.before.before.before.before.before.before.args.word (omega arith) c.before.before.before.before.before.before.before.before.before.before.before.before.args.out.now c.before.before.before.before.before.before.before.before.named.given.0.0 (ap decodedTells (sym c.before.before.before.before.before.before.before.before.named.given.1) ∙ c.before.before.before.before.before.before.before.before.before.before.decode.ensures) c.before.before.before.before.before.line-size.result c.before.before.put-line.new.1.0 (c.before.before.before.before.before.line-size.ensures ∙ ap (λ (k : Keys). length (keysLine k)) c.before.before.before.before.before.before.keys_of.ensures) c.before.before.before.before.if1.false (c.before.before.put-line.ensures ∙ ap (λ (k : Keys). sets c.before.before.before.before.before.before.before.before.before.before.before.before.args.out.now 0 (keysLine k)) c.before.before.before.before.before.before.keys_of.ensures)
+returns-3 c = filled-out c.before.before.before.before.before.before.before.before.before.before.before.before.args.word (omega arith) c.before.before.before.before.before.before.before.before.before.before.before.before.args.out.now c.before.before.before.before.before.before.before.before.named.given.0.0 (ap decoded_tells (sym c.before.before.before.before.before.before.before.before.named.given.1) ∙ c.before.before.before.before.before.before.before.before.before.before.decode.ensures) c.before.before.before.before.before.line-size.result c.before.before.put-line.new.1.0 (c.before.before.before.before.before.line-size.ensures ∙ ap (λ (k : Keys). length (keys_line k)) c.before.before.before.before.before.before.keys_of.ensures) c.before.before.before.before.if1.false (c.before.before.put-line.ensures ∙ ap (λ (k : Keys). sets c.before.before.before.before.before.before.before.before.before.before.before.before.args.out.now 0 (keys_line k)) c.before.before.before.before.before.before.keys_of.ensures)
 
 pub line-of-spec : {M : Type 1} → statement M
 line-of-spec =

@@ -1,5 +1,5 @@
 -- `machine::may_start` meets its contract: a waiting word is asked about.
-use Rattle.machine.specs.Judging.{mayStart}
+use Rattle.machine.specs.Judging.{may_start}
 use borrow.Author.Rules.{rules}
 use Rattle.machine.proofs.may_start.Statement.{statement}
 use Rattle.machine.proofs.may_start.Tie as tie
@@ -14,12 +14,12 @@ takes-immediate-requires : tie.Need-takes-immediate-requires
 takes-immediate-requires c κs = search rules
 
 returns : tie.Need-returns
-unfolding mayStart
+unfolding may_start
 returns c = rw c.enum_told.given.1
 
 returns-2 : tie.Need-returns-2
-unfolding mayStart
-returns-2 c = rw (c.before.before.waiting.given.1, c.takes-immediate.ensures)
+unfolding may_start
+returns-2 c = rw (c.before.before.waiting.given.1, c.takes_immediate_lem.ensures)
 
 pub may-start-spec : {M : Type 1} → statement M
 may-start-spec =

@@ -8,13 +8,13 @@ machine-from-requires : tie.Need-machine-from-requires
 machine-from-requires c κs = search rules
 
 returns : tie.Need-returns
-returns c = rw (ne_eqb _ _ c.if1.true, c.before.before.machine-from.ensures)
+returns c = rw (ne_eqb _ _ c.if1.true, c.before.before.machine_from_lem.ensures)
 
 completed-by-requires : tie.Need-completed-by-requires
 completed-by-requires c κs = search rules
 
 returns-2 : tie.Need-returns-2
-returns-2 c = rw (eq-eqb _ _ c.before.if1.false, c.completed-by.ensures, c.before.before.before.machine-from.ensures)
+returns-2 c = rw (eq-eqb _ _ c.before.if1.false, c.completed-by.ensures, c.before.before.before.machine_from_lem.ensures)
 
 pub turn-of-spec : {M : Type 1} → statement M
 turn-of-spec = tie.close (tie.spec machine-from-requires returns completed-by-requires returns-2)

@@ -1,6 +1,6 @@
 -- `plan::one_operand` meets its contract: the fields' tables are told value by value.
-use Rattle.plan.specs.Tables.{at, oneOperands, sources}
-use Rattle.plan.proofs.Told.{told-one-operand, told-source}
+use Rattle.plan.specs.Tables.{at, one_operands, sources}
+use Rattle.plan.proofs.Told.{told_one_operand, told_source}
 use borrow.Author.Rules.{rules}
 use Rattle.plan.proofs.one_operand.Statement.{statement}
 use Rattle.plan.proofs.one_operand.Tie as tie
@@ -18,7 +18,7 @@ at-width-requires : tie.Need-at-width-requires
 at-width-requires c κs = search rules
 
 returns : tie.Need-returns
-returns c = rw (c.at_width.ensures, c.before.one.ensures, told-source 16 (at sources) c.before.before.before.before.args.b c.before.before.source-at.result c.before.before.source-at.ensures c.before.before.before.before.requires.1, told-one-operand 16 (at oneOperands) c.before.before.before.before.args.a c.before.before.before.one-operand-kind.result c.before.before.before.one-operand-kind.ensures c.before.before.before.before.requires.0)
+returns c = rw (c.at_width.ensures, c.before.one.ensures, told_source 16 (at sources) c.before.before.before.before.args.b c.before.before.source_at.result c.before.before.source_at.ensures c.before.before.before.before.requires.1, told_one_operand 16 (at one_operands) c.before.before.before.before.args.a c.before.before.before.one-operand-kind.result c.before.before.before.one-operand-kind.ensures c.before.before.before.before.requires.0)
 
 pub one-operand-spec : {M : Type 1} → statement M
 one-operand-spec =

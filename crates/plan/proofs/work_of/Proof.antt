@@ -1,8 +1,8 @@
 -- `plan::work_of` meets its contract: in each arm the family is the arm's, and the tables are told value by value.
-use Rattle.plan.specs.Plans.{workOf}
-use Rattle.plan.specs.Tables.{at, bonrBits, bonrSource, bor1Bits, bor2Bits, maskSource, noRamTo, prt1Source, prt1To, prt2To, ramPairTo, rotateU, rotnrSource, rotnrTo, rotr1To, sorTo, sources, statusBits}
+use Rattle.plan.specs.Plans.{work_of}
+use Rattle.plan.specs.Tables.{at, bonr_bits, bonr_source, bor1_bits, bor2_bits, mask_source, no_ram_to, prt1_source, prt1_to, prt2_to, ram_pair_to, rotate_u, rotnr_source, rotnr_to, rotr1_to, sor_to, sources, status_bits}
 use Rattle.choice.proofs.Decisions.{along}
-use Rattle.plan.proofs.Told.{told-bit, told-destination, told-source}
+use Rattle.plan.proofs.Told.{told_bit, told_destination, told_source}
 use borrow.Author.Rules.{rules}
 use Rattle.plan.proofs.work_of.Statement.{statement}
 use Rattle.plan.proofs.work_of.Tie as tie
@@ -263,111 +263,111 @@ idle-requires-2 : tie.Need-idle-requires-2
 idle-requires-2 c κs = search rules
 
 returns : tie.Need-returns
-unfolding workOf
-returns c = rw (c.before.before.before.enum_told.given.1, c.two-operand.ensures, told-destination 16 (at ramPairTo) c.before.before.before.before.before.args.a c.before.ram-pair-to.result c.before.ram-pair-to.ensures c.before.before.before.before.before.requires.0, c.before.before.ram-pair.ensures)
+unfolding work_of
+returns c = rw (c.before.before.before.enum_told.given.1, c.two-operand.ensures, told_destination 16 (at ram_pair_to) c.before.before.before.before.before.args.a c.before.ram-pair-to.result c.before.ram-pair-to.ensures c.before.before.before.before.before.requires.0, c.before.before.ram-pair.ensures)
 
 returns-2 : tie.Need-returns-2
-unfolding workOf
-returns-2 c = rw (c.before.before.enum-told2.given.1, c.rotate.ensures, told-destination 16 (at rotr1To) c.before.before.before.before.args.b c.before.rotr1-to.result c.before.rotr1-to.ensures c.before.before.before.before.requires.1)
+unfolding work_of
+returns-2 c = rw (c.before.before.enum-told2.given.1, c.rotate.ensures, told_destination 16 (at rotr1_to) c.before.before.before.before.args.b c.before.rotr1-to.result c.before.rotr1-to.ensures c.before.before.before.before.requires.1)
 
 returns-3 : tie.Need-returns-3
-unfolding workOf
-returns-3 c = rw (c.before.before.enum-told3.given.1, c.rotate2.ensures, told-source 16 (at rotateU) c.before.before.before.before.args.b c.before.rotate-u.result c.before.rotate-u.ensures c.before.before.before.before.requires.1)
+unfolding work_of
+returns-3 c = rw (c.before.before.enum-told3.given.1, c.rotate2.ensures, told_source 16 (at rotate_u) c.before.before.before.before.args.b c.before.rotate-u.result c.before.rotate-u.ensures c.before.before.before.before.requires.1)
 
 returns-4 : tie.Need-returns-4
-unfolding workOf
+unfolding work_of
 returns-4 c = rw (c.before.before.enum-told4.given.1, c.at_width.ensures, c.before.rotate-operands.ensures)
 
 returns-5 : tie.Need-returns-5
-unfolding workOf
+unfolding work_of
 returns-5 c = rw (c.before.enum-told5.given.1, c.merge.ensures)
 
 returns-6 : tie.Need-returns-6
-unfolding workOf
-returns-6 c = rw (c.before.before.enum-told6.given.1, c.one-operand.ensures, told-destination 16 (at sorTo) c.before.before.before.before.args.b c.before.sor-to.result c.before.sor-to.ensures c.before.before.before.before.requires.1)
+unfolding work_of
+returns-6 c = rw (c.before.before.enum-told6.given.1, c.one-operand.ensures, told_destination 16 (at sor_to) c.before.before.before.before.args.b c.before.sor-to.result c.before.sor-to.ensures c.before.before.before.before.requires.1)
 
 returns-7 : tie.Need-returns-7
-unfolding workOf
-returns-7 c = rw (c.before.before.enum-told7.given.1, c.bit.ensures, told-bit 16 (at bor2Bits) c.before.before.before.before.args.b c.before.bor2-kind.result c.before.bor2-kind.ensures c.before.before.before.before.requires.1)
+unfolding work_of
+returns-7 c = rw (c.before.before.enum-told7.given.1, c.bit.ensures, told_bit 16 (at bor2_bits) c.before.before.before.before.args.b c.before.bor2-kind.result c.before.bor2-kind.ensures c.before.before.before.before.requires.1)
 
 returns-8 : tie.Need-returns-8
-unfolding workOf
+unfolding work_of
 returns-8 c = rw (c.before.before.enum-told8.given.1, c.two-operand2.ensures, c.before.pair.ensures)
 
 returns-9 : tie.Need-returns-9
-unfolding workOf
+unfolding work_of
 returns-9 c = rw (c.before.before.enum-told9.given.1, c.shift.ensures, c.before.shift-source.ensures)
 
 returns-10 : tie.Need-returns-10
-unfolding workOf
+unfolding work_of
 returns-10 c = rw (c.before.enum-told10.given.1, c.check-step.ensures)
 
 returns-11 : tie.Need-returns-11
-unfolding workOf
+unfolding work_of
 returns-11 c = rw (c.before.enum-told11.given.1, c.check-step2.ensures)
 
 returns-12 : tie.Need-returns-12
-unfolding workOf
-returns-12 c = rw (c.before.before.before.enum-told12.given.1, c.prioritize.ensures, told-destination 16 (at prt1To) c.before.before.before.before.before.args.a c.before.prt1-to.result c.before.prt1-to.ensures c.before.before.before.before.before.requires.0, told-source 16 (at prt1Source) c.before.before.before.before.before.args.b c.before.before.prt1-source.result c.before.before.prt1-source.ensures c.before.before.before.before.before.requires.1)
+unfolding work_of
+returns-12 c = rw (c.before.before.before.enum-told12.given.1, c.prioritize.ensures, told_destination 16 (at prt1_to) c.before.before.before.before.before.args.a c.before.prt1-to.result c.before.prt1-to.ensures c.before.before.before.before.before.requires.0, told_source 16 (at prt1_source) c.before.before.before.before.before.args.b c.before.before.prt1-source.result c.before.before.prt1-source.ensures c.before.before.before.before.before.requires.1)
 
 returns-13 : tie.Need-returns-13
-unfolding workOf
-returns-13 c = rw (c.before.before.before.enum-told13.given.1, c.prioritize2.ensures, told-destination 16 (at prt2To) c.before.before.before.before.before.args.b c.before.prt2-to.result c.before.prt2-to.ensures c.before.before.before.before.before.requires.1, told-source 16 (at maskSource) c.before.before.before.before.before.args.a c.before.before.mask-source.result c.before.before.mask-source.ensures c.before.before.before.before.before.requires.0)
+unfolding work_of
+returns-13 c = rw (c.before.before.before.enum-told13.given.1, c.prioritize2.ensures, told_destination 16 (at prt2_to) c.before.before.before.before.before.args.b c.before.prt2-to.result c.before.prt2-to.ensures c.before.before.before.before.before.requires.1, told_source 16 (at mask_source) c.before.before.before.before.before.args.a c.before.before.mask-source.result c.before.before.mask-source.ensures c.before.before.before.before.before.requires.0)
 
 returns-14 : tie.Need-returns-14
-unfolding workOf
-returns-14 c = rw (c.before.before.before.enum-told14.given.1, c.prioritize3.ensures, told-source 16 (at maskSource) c.before.before.before.before.before.args.a c.before.mask-source2.result c.before.mask-source2.ensures c.before.before.before.before.before.requires.0, told-source 16 (at sources) c.before.before.before.before.before.args.b c.before.before.source-at.result c.before.before.source-at.ensures c.before.before.before.before.before.requires.1)
+unfolding work_of
+returns-14 c = rw (c.before.before.before.enum-told14.given.1, c.prioritize3.ensures, told_source 16 (at mask_source) c.before.before.before.before.before.args.a c.before.mask-source2.result c.before.mask-source2.ensures c.before.before.before.before.before.requires.0, told_source 16 (at sources) c.before.before.before.before.before.args.b c.before.before.source_at.result c.before.before.source_at.ensures c.before.before.before.before.before.requires.1)
 
 returns-15 : tie.Need-returns-15
-unfolding workOf
+unfolding work_of
 returns-15 c = rw (c.before.enum-told15.given.1, c.status-work.ensures)
 
 returns-16 : tie.Need-returns-16
-unfolding workOf
-returns-16 c = rw (c.before.before.enum-told16.given.1, c.one-operand2.ensures, told-destination 32 (at noRamTo) c.before.before.before.before.args.c c.before.no-ram-to.result c.before.no-ram-to.ensures c.before.before.before.before.requires.2)
+unfolding work_of
+returns-16 c = rw (c.before.before.enum-told16.given.1, c.one-operand2.ensures, told_destination 32 (at no_ram_to) c.before.before.before.before.args.c c.before.no-ram-to.result c.before.no-ram-to.ensures c.before.before.before.before.requires.2)
 
 returns-17 : tie.Need-returns-17
-unfolding workOf
-returns-17 c = rw (c.before.before.before.enum-told17.given.1, c.two-operand3.ensures, told-destination 32 (at noRamTo) c.before.before.before.before.before.args.c c.before.no-ram-to2.result c.before.no-ram-to2.ensures c.before.before.before.before.before.requires.2, c.before.before.pair2.ensures)
+unfolding work_of
+returns-17 c = rw (c.before.before.before.enum-told17.given.1, c.two-operand3.ensures, told_destination 32 (at no_ram_to) c.before.before.before.before.before.args.c c.before.no-ram-to2.result c.before.no-ram-to2.ensures c.before.before.before.before.before.requires.2, c.before.before.pair2.ensures)
 
 returns-18 : tie.Need-returns-18
-unfolding workOf
-returns-18 c = rw (c.before.before.before.enum-told18.given.1, c.shift2.ensures, told-destination 32 (at noRamTo) c.before.before.before.before.before.args.c c.before.no-ram-to3.result c.before.no-ram-to3.ensures c.before.before.before.before.before.requires.2, c.before.before.shift-source2.ensures)
+unfolding work_of
+returns-18 c = rw (c.before.before.before.enum-told18.given.1, c.shift2.ensures, told_destination 32 (at no_ram_to) c.before.before.before.before.before.args.c c.before.no-ram-to3.result c.before.no-ram-to3.ensures c.before.before.before.before.before.requires.2, c.before.before.shift-source2.ensures)
 
 returns-19 : tie.Need-returns-19
-unfolding workOf
-returns-19 c = rw (c.before.before.enum-told19.given.1, c.bit2.ensures, told-bit 16 (at bor1Bits) c.before.before.before.before.args.b c.before.bor1-kind.result c.before.bor1-kind.ensures c.before.before.before.before.requires.1)
+unfolding work_of
+returns-19 c = rw (c.before.before.enum-told19.given.1, c.bit2.ensures, told_bit 16 (at bor1_bits) c.before.before.before.before.args.b c.before.bor1-kind.result c.before.bor1-kind.ensures c.before.before.before.before.requires.1)
 
 returns-20 : tie.Need-returns-20
-unfolding workOf
-returns-20 c = rw (c.before.before.before.enum-told20.given.1, c.bit3.ensures, told-source 32 (at bonrSource) c.before.before.before.before.before.args.c c.before.bonr-source.result c.before.bonr-source.ensures c.before.before.before.before.before.requires.2, told-bit 32 (at bonrBits) c.before.before.before.before.before.args.c c.before.before.bonr-kind.result c.before.before.bonr-kind.ensures c.before.before.before.before.before.requires.2)
+unfolding work_of
+returns-20 c = rw (c.before.before.before.enum-told20.given.1, c.bit3.ensures, told_source 32 (at bonr_source) c.before.before.before.before.before.args.c c.before.bonr-source.result c.before.bonr-source.ensures c.before.before.before.before.before.requires.2, told_bit 32 (at bonr_bits) c.before.before.before.before.before.args.c c.before.before.bonr-kind.result c.before.before.bonr-kind.ensures c.before.before.before.before.before.requires.2)
 
 returns-21 : tie.Need-returns-21
-unfolding workOf
-returns-21 c = rw (c.before.before.before.enum-told21.given.1, c.rotate3.ensures, told-destination 32 (at rotnrTo) c.before.before.before.before.before.args.c c.before.rotnr-to.result c.before.rotnr-to.ensures c.before.before.before.before.before.requires.2, told-source 32 (at rotnrSource) c.before.before.before.before.before.args.c c.before.before.rotnr-source.result c.before.before.rotnr-source.ensures c.before.before.before.before.before.requires.2)
+unfolding work_of
+returns-21 c = rw (c.before.before.before.enum-told21.given.1, c.rotate3.ensures, told_destination 32 (at rotnr_to) c.before.before.before.before.before.args.c c.before.rotnr-to.result c.before.rotnr-to.ensures c.before.before.before.before.before.requires.2, told_source 32 (at rotnr_source) c.before.before.before.before.before.args.c c.before.before.rotnr-source.result c.before.before.rotnr-source.ensures c.before.before.before.before.before.requires.2)
 
 returns-22 : tie.Need-returns-22
-unfolding workOf
-returns-22 c = rw (c.before.before.before.before.enum-told22.given.1, c.prioritize4.ensures, told-destination 32 (at noRamTo) c.before.before.before.before.before.before.args.c c.before.no-ram-to4.result c.before.no-ram-to4.ensures c.before.before.before.before.before.before.requires.2, told-source 16 (at maskSource) c.before.before.before.before.before.before.args.a c.before.before.mask-source3.result c.before.before.mask-source3.ensures c.before.before.before.before.before.before.requires.0, told-source 16 (at sources) c.before.before.before.before.before.before.args.b c.before.before.before.source-at2.result c.before.before.before.source-at2.ensures c.before.before.before.before.before.before.requires.1)
+unfolding work_of
+returns-22 c = rw (c.before.before.before.before.enum-told22.given.1, c.prioritize4.ensures, told_destination 32 (at no_ram_to) c.before.before.before.before.before.before.args.c c.before.no-ram-to4.result c.before.no-ram-to4.ensures c.before.before.before.before.before.before.requires.2, told_source 16 (at mask_source) c.before.before.before.before.before.before.args.a c.before.before.mask-source3.result c.before.before.mask-source3.ensures c.before.before.before.before.before.before.requires.0, told_source 16 (at sources) c.before.before.before.before.before.before.args.b c.before.before.before.source-at2.result c.before.before.before.source-at2.ensures c.before.before.before.before.before.before.requires.1)
 
 returns-23 : tie.Need-returns-23
-unfolding workOf
-returns-23 c = rw (c.before.before.enum-told23.given.1, c.status-work2.ensures, told-destination 32 (at noRamTo) c.before.before.before.before.args.c c.before.no-ram-to5.result c.before.no-ram-to5.ensures c.before.before.before.before.requires.2)
+unfolding work_of
+returns-23 c = rw (c.before.before.enum-told23.given.1, c.status-work2.ensures, told_destination 32 (at no_ram_to) c.before.before.before.before.args.c c.before.no-ram-to5.result c.before.no-ram-to5.ensures c.before.before.before.before.requires.2)
 
 returns-24 : tie.Need-returns-24
-unfolding workOf
-returns-24 c = rw (c.before.before.enum-told24.given.1, c.status-work3.ensures, along 32 (at statusBits) c.before.before.before.before.args.c c.before.status-bits.result c.before.status-bits.ensures c.before.before.before.before.requires.2)
+unfolding work_of
+returns-24 c = rw (c.before.before.enum-told24.given.1, c.status-work3.ensures, along 32 (at status_bits) c.before.before.before.before.args.c c.before.status-bits.result c.before.status-bits.ensures c.before.before.before.before.requires.2)
 
 returns-25 : tie.Need-returns-25
-unfolding workOf
-returns-25 c = rw (c.before.before.enum-told25.given.1, c.status-work4.ensures, along 32 (at statusBits) c.before.before.before.before.args.c c.before.status-bits2.result c.before.status-bits2.ensures c.before.before.before.before.requires.2)
+unfolding work_of
+returns-25 c = rw (c.before.before.enum-told25.given.1, c.status-work4.ensures, along 32 (at status_bits) c.before.before.before.before.args.c c.before.status-bits2.result c.before.status-bits2.ensures c.before.before.before.before.requires.2)
 
 returns-26 : tie.Need-returns-26
-unfolding workOf
+unfolding work_of
 returns-26 c = rw (c.before.enum-told26.given.1, c.idle.ensures)
 
 returns-27 : tie.Need-returns-27
-unfolding workOf
+unfolding work_of
 returns-27 c = rw (c.before.enum-told27.given.1, c.idle2.ensures)
 
 pub work-of-spec : {M : Type 1} → statement M

@@ -7,7 +7,7 @@ machine-from-requires : tie.Need-machine-from-requires
 machine-from-requires c κs = search rules
 
 returns : tie.Need-returns
-returns c = rw c.machine-from.ensures
+returns c = rw c.machine_from_lem.ensures
 
 pub ended-spec : {M : Type 1} → statement M
 ended-spec = tie.close (tie.spec machine-from-requires returns)

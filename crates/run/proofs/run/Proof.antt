@@ -19,7 +19,7 @@ ended-requires c κs = search rules
 
 returns : tie.Need-returns
 unfolding run_of
-returns c = rw (c.ended.ensures, c.before.before.before.core-of.ensures, ← c.before.before.start-refusal.ensures, ne_eqb _ _ c.before.if1.true) (record { answer = refl; written = refl })
+returns c = rw (c.ended.ensures, c.before.before.before.core_of_lem.ensures, ← c.before.before.start-refusal.ensures, ne_eqb _ _ c.before.if1.true) (record { answer = refl; written = refl })
 
 run-cycles-requires : tie.Need-run-cycles-requires
 run-cycles-requires c κs = starts c.before.before.before.before.before.before.before.before.args.machine.registers.waiting _ _ (sym c.before.before.start-refusal.ensures ∙ c.before.if1.false)
@@ -29,7 +29,7 @@ same_length c = search rules
 
 returns-2 : tie.Need-returns-2
 unfolding run_of
-returns-2 c = rw (← c.before.before.before.before.before.start-refusal.ensures, eq-eqb _ _ c.before.before.before.before.if1.false) (from_parts c.before.before.before.before.before.before.before.before.before.before.before.args.machine _ c.before.before.before.before.before.before.core-of.ensures c.before.before.before.before.before.before.before.before.before.before.before.args.budget _ _ _ _ c.before.before.run-cycles.ensures)
+returns-2 c = rw (← c.before.before.before.before.before.start-refusal.ensures, eq-eqb _ _ c.before.before.before.before.if1.false) (from_parts c.before.before.before.before.before.before.before.before.before.before.before.args.machine _ c.before.before.before.before.before.before.core_of_lem.ensures c.before.before.before.before.before.before.before.before.before.before.before.args.budget _ _ _ _ c.before.before.run-cycles.ensures)
 
 pub run_spec : {M : Type 1} → statement M
 run_spec =

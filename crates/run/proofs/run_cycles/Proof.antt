@@ -3,9 +3,9 @@ use mathlib.Core.Path.{ap, ◌∙◌}
 use Prim.Native.Nat.{◌-◌}
 use native.Mathlib.Omega.{arith}
 use Rattle.choice.proofs.Tells.{tells-accepted, tells-refused}
-use Rattle.machine.specs.Cycles.{cycleOf}
-use Rattle.machine.specs.Stepping.{machineFrom, reportIn}
-use Rattle.run.proofs.Courses.{completions-le}
+use Rattle.machine.specs.Cycles.{cycle_of}
+use Rattle.machine.specs.Stepping.{machine_from, report_in}
+use Rattle.run.proofs.Courses.{completions_le}
 use Rattle.run.proofs.Loop.{Before, begins, finishes, stops, refuses, again}
 use borrow.Author.Rules.{rules}
 use Rattle.run.proofs.run_cycles.Statement.{statement}
@@ -13,7 +13,7 @@ use Rattle.run.proofs.run_cycles.Tie as tie
 
 abbrev invariant-loop : tie.invariant-loop
 invariant-loop words budget reports₀ cycles ram₀ core₀ left₀ completed₀ i₀ reports ram core left completed i =
-    Before words budget (machineFrom ram₀ core₀) reports₀ cycles reports (machineFrom ram core) left completed i
+    Before words budget (machine_from ram₀ core₀) reports₀ cycles reports (machine_from ram core) left completed i
 
 abbrev decreases-loop : tie.decreases-loop
 decreases-loop words budget reports₀ cycles ram₀ core₀ left₀ completed₀ i₀ reports ram core left completed i =
@@ -54,7 +54,7 @@ returns-2 c =
     let loop = c.before.before.before.before.before.before.before.before.before.loop in
     rw c.ended2.ensures
     (refuses loop.invariant start.requires.2 c.before.before.before.before.before.before.before.before.loop-test.true c.before.before.before.before.before.before.before.if1.false _
-    (c.before.before.before.before.step.ensures.turn ∙ ap (cycleOf (machineFrom loop.ram loop.core)) c.before.before.before.before.before.cycle-at.ensures) _ (tells-refused _ _ c.before.if2.true))
+    (c.before.before.before.before.step.ensures.turn ∙ ap (cycle_of (machine_from loop.ram loop.core)) c.before.before.before.before.before.cycle-at.ensures) _ (tells-refused _ _ c.before.if2.true))
 
 put-requires : tie.Need-put-requires invariant-loop decreases-loop
 put-requires c κs = omega (arith, c.before.before.before.before.before.before.before.before.before.loop.invariant.room, c.before.before.before.before.before.before.before.before.before.before.before.before.requires, c.before.before.before.before.before.before.before.before.loop-test.true)
@@ -66,7 +66,7 @@ add-completed : tie.Need-overflow-add-completed invariant-loop decreases-loop
 add-completed c =
     let start = c.before.before.before.before.before.before.before.before.before.before.before.before.before.before.before.before in
     let loop = c.before.before.before.before.before.before.before.before.before.before.before.before.before.loop in
-    omega (arith, completions-le (reportIn c.before.before.before.before.before.before.before.before.step.result).completed, c.instructions.ensures, loop.invariant.few, c.before.before.before.before.before.before.before.before.before.before.before.before.loop-test.true, start.requires)
+    omega (arith, completions_le (report_in c.before.before.before.before.before.before.before.before.step.result).completed, c.instructions.ensures, loop.invariant.few, c.before.before.before.before.before.before.before.before.before.before.before.before.loop-test.true, start.requires)
 
 sub-left : tie.Need-overflow-sub-left invariant-loop decreases-loop
 sub-left c = search rules
@@ -83,7 +83,7 @@ loop-again c =
     let loop = c.before.before.before.before.before.before.before.before.before.before.before.before.before.loop in
     rw c.instructions.ensures
     (again loop.invariant start.requires.2 c.before.before.before.before.before.before.before.before.before.before.before.before.loop-test.true c.before.before.before.before.before.before.before.before.before.before.before.if1.false _
-    (c.before.before.before.before.before.before.before.before.step.ensures.turn ∙ ap (cycleOf (machineFrom loop.ram loop.core)) c.before.before.before.before.before.before.before.before.before.cycle-at.ensures) (reportIn c.before.before.before.before.before.before.before.before.step.result) _ (tells-accepted _ _ c.before.before.before.before.before.if2.false) c.before.before.before.put.ensures)
+    (c.before.before.before.before.before.before.before.before.step.ensures.turn ∙ ap (cycle_of (machine_from loop.ram loop.core)) c.before.before.before.before.before.before.before.before.before.cycle-at.ensures) (report_in c.before.before.before.before.before.before.before.before.step.result) _ (tells-accepted _ _ c.before.before.before.before.before.if2.false) c.before.before.before.put.ensures)
 
 ended-requires-3 : tie.Need-ended-requires-3 invariant-loop decreases-loop
 ended-requires-3 c κs = search rules

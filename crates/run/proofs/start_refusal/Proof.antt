@@ -20,10 +20,10 @@ may-start-requires : tie.Need-may-start-requires
 may-start-requires c κs = search rules
 
 returns-4 : tie.Need-returns-4
-returns-4 c = rw (eq-eqb _ _ c.before.before.before.before.if1.false, le-ltb _ _ c.before.before.before.if2.false, le-ltb _ _ c.before.before.if3.false, ← c.before.may-start.ensures, c.if4.true)
+returns-4 c = rw (eq-eqb _ _ c.before.before.before.before.if1.false, le-ltb _ _ c.before.before.before.if2.false, le-ltb _ _ c.before.before.if3.false, ← c.before.may_start_lem.ensures, c.if4.true)
 
 returns-5 : tie.Need-returns-5
-returns-5 c = rw (eq-eqb _ _ c.before.before.before.before.if1.false, le-ltb _ _ c.before.before.before.if2.false, le-ltb _ _ c.before.before.if3.false, ← c.before.may-start.ensures, c.if4.false)
+returns-5 c = rw (eq-eqb _ _ c.before.before.before.before.if1.false, le-ltb _ _ c.before.before.before.if2.false, le-ltb _ _ c.before.before.if3.false, ← c.before.may_start_lem.ensures, c.if4.false)
 
 pub start-refusal-spec : {M : Type 1} → statement M
 start-refusal-spec =

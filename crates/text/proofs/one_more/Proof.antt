@@ -1,8 +1,8 @@
 -- `text::one_more` meets its contract: its test is the definition's.
 use borrow.Author.Rules.{rules}
 use borrow.Author.Tests.{lt-ltb, le-ltb}
-use Rattle.text.proofs.one_more.Statement.{statement}
-use Rattle.text.proofs.one_more.Tie as tie
+use Rattle.text.proofs.one_more_lem.Statement.{statement}
+use Rattle.text.proofs.one_more_lem.Tie as tie
 
 add-result : tie.Need-overflow-add-result
 add-result c = search rules

@@ -10,7 +10,7 @@ one-more-requires c κs = search rules
 
 returns : tie.Need-returns
 unfolding passed
-returns c = rw (c.one_more.ensures, eq-eqb _ _ c.before.if1.true)
+returns c = rw (c.one_more_lem.ensures, eq-eqb _ _ c.before.if1.true)
 
 one-more-requires-2 : tie.Need-one-more-requires-2
 one-more-requires-2 c κs = search rules

@@ -8,14 +8,14 @@ use lib.ListN.{length, drop}
 use borrow.Author.Rules.{rules}
 use Rattle.text.proofs.take.Statement.{statement}
 use Rattle.text.proofs.take.Tie as tie
-use Rattle.text.specs.Taking.{takeFrom}
+use Rattle.text.specs.Taking.{take_from}
 use Rattle.text.specs.Lines.{move_of}
-use Rattle.text.specs.Taking.{takeFrom, Took}
+use Rattle.text.specs.Taking.{take_from, Took}
 use Rattle.text.specs.Lines.{move_of}
-use Rattle.text.proofs.Turns.{length-kept, turn-nothing, turn-word, turn-fault, turn_end}
+use Rattle.text.proofs.Turns.{length_kept, turn-nothing, turn-word, turn-fault, turn_end}
 
 abbrev invariant-loop : tie.invariant-loop
-invariant-loop text words₀ state₀ i₀ words state i = (i ≤ length text) × (length words ≡ length words₀) × (takeFrom i state (drop i text) words ≡ takeFrom 0 state₀ text words₀)
+invariant-loop text words₀ state₀ i₀ words state i = (i ≤ length text) × (length words ≡ length words₀) × (take_from i state (drop i text) words ≡ take_from 0 state₀ text words₀)
 
 abbrev decreases-loop : tie.decreases-loop
 decreases-loop text words₀ state₀ i₀ words state i = length text - i
@@ -71,7 +71,7 @@ loop-again-2 c =
     let found = c.before.before.before.before.before.before.before.before.before.move-of.ensures ∙ ap (move_of loop.state.place loop.state.words) c.before.before.before.before.before.before.before.before.before.before.kind-of.ensures in
     let kept = c.before.before.before.keep.ensures in
     let turn = turn-word start.args.text.now loop.i (omega arith) loop.state loop.words c.before.before.before.before.before.before.before.before.before.move-of.result found c.before.before.before.before.before.before.before.before.passed.result c.before.before.before.before.before.before.before.before.passed.ensures _ _ _ c.before.before.before.before.before.before.met.given.1 kept c.with-word.ensures in
-    (omega arith, ap length kept ∙ length-kept loop.state.found c.before.before.before.before.before.before.met.given.0.0 loop.words ∙ loop.invariant.1, rw add-one (turn ∙ loop.invariant.2))
+    (omega arith, ap length kept ∙ length_kept loop.state.found c.before.before.before.before.before.before.met.given.0.0 loop.words ∙ loop.invariant.1, rw add-one (turn ∙ loop.invariant.2))
 
 enum-known-met-2 : tie.Need-enum-known-met-2 invariant-loop decreases-loop
 enum-known-met-2 c = search rules

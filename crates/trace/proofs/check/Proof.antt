@@ -7,14 +7,14 @@ use native.Mathlib.Numerals.{add-one}
 use lib.ListN.{length, drop, get_or, drop_of_length-le}
 use lib.Seq.{drop-cons}
 use borrow.Author.Rules.{rules}
-use Rattle.trace.specs.Check.{checkOf}
-use Rattle.trace.specs.Folding.{foldBits, foldBytes}
+use Rattle.trace.specs.Check.{check_of}
+use Rattle.trace.specs.Folding.{fold_bits, fold_bytes}
 use Rattle.trace.proofs.Folded.{check-fold}
 use Rattle.trace.proofs.check.Statement.{statement}
 use Rattle.trace.proofs.check.Tie as tie
 
 abbrev invariant-loop : tie.invariant-loop
-invariant-loop bytes register₀ i₀ register i = (i ≤ length bytes) × (foldBytes register (drop i bytes) ≡ checkOf bytes)
+invariant-loop bytes register₀ i₀ register i = (i ≤ length bytes) × (fold_bytes register (drop i bytes) ≡ check_of bytes)
 
 abbrev decreases-loop : tie.decreases-loop
 decreases-loop bytes register₀ i₀ register i = length bytes - i
@@ -34,7 +34,7 @@ add-i c = search rules
 loop-less : tie.Need-loop-smaller invariant-loop decreases-loop
 loop-less c = search rules
 
-fold_step : (register : ℕ) (l : List ℕ) (i : ℕ) → i < length l → foldBytes register (drop i l) ≡ foldBytes (foldBits 8 register (get_or l i 0)) (drop (i + 1) l)
+fold_step : (register : ℕ) (l : List ℕ) (i : ℕ) → i < length l → fold_bytes register (drop i l) ≡ fold_bytes (fold_bits 8 register (get_or l i 0)) (drop (i + 1) l)
 fold_step register l i h = rw (add-one, drop-cons l i 0)
 
 loop-again : tie.Need-loop-preserved invariant-loop decreases-loop

@@ -2,7 +2,7 @@
 use Prim.Native.Nat.{◌*◌}
 use lib.ListN.{length}
 use borrow.Author.Rules.{rules}
-use Rattle.trace.specs.Limits.{blocksFor}
+use Rattle.trace.specs.Limits.{blocks_for}
 use Rattle.trace.proofs.Answered.{refuses, accepts, write-1, write-2, write-3, write_done}
 use Rattle.trace.proofs.write.Statement.{statement}
 use Rattle.trace.proofs.write.Tie as tie
@@ -40,7 +40,7 @@ same_length c = search rules
 returns-4 : tie.Need-returns-4
 returns-4 c =
     let start = c.before.before.before.before.before.before.before.before.before in
-    accepts (blocksFor (length start.args.words.now) * 512) c.before.before.write-blocks.new.1.1.0
+    accepts (blocks_for (length start.args.words.now) * 512) c.before.before.write-blocks.new.1.1.0
     (write_done 3 (length start.args.words.now) (length start.args.trace.now) c.before.before.before.before.before.before.if1.false c.before.before.before.before.before.if2.false c.before.before.before.before.if3.false) c.before.before.write-blocks.ensures
 
 pub write_spec : {M : Type 1} → statement M

@@ -1,4 +1,4 @@
-use Rattle.alu.specs.Operations.{outcomeOf, bitOperation}
+use Rattle.alu.specs.Operations.{outcome_of, bit_operation}
 use borrow.Author.Rules.{rules}
 use Rattle.alu.proofs.logic.bit_operation.Statement.{statement}
 use Rattle.alu.proofs.logic.bit_operation.Tie as tie
@@ -58,31 +58,31 @@ minus-requires : tie.Need-minus-requires
 minus-requires c κs = search rules
 
 returns : tie.Need-returns
-unfolding outcomeOf bitOperation
+unfolding outcome_of bit_operation
 returns c = rw (c.plain.ensures, c.before.before.before.power.ensures, c.before.before.before.before.low.ensures, c.before.enum_told.given.1)
 
 returns-2 : tie.Need-returns-2
-unfolding outcomeOf bitOperation
+unfolding outcome_of bit_operation
 returns-2 c = rw (c.plain2.ensures, c.before.complement.ensures, c.before.before.before.before.power.ensures, c.before.before.before.before.before.low.ensures, c.before.before.enum-told2.given.1)
 
 returns-3 : tie.Need-returns-3
-unfolding outcomeOf bitOperation
+unfolding outcome_of bit_operation
 returns-3 c = rw (c.plain3.ensures, c.before.before.before.power.ensures, c.before.before.before.before.low.ensures, c.before.enum-told3.given.1)
 
 returns-4 : tie.Need-returns-4
-unfolding outcomeOf bitOperation
+unfolding outcome_of bit_operation
 returns-4 c = rw (c.plain4.ensures, c.before.before.before.power.ensures, c.before.enum-told4.given.1)
 
 returns-5 : tie.Need-returns-5
-unfolding outcomeOf bitOperation
+unfolding outcome_of bit_operation
 returns-5 c = rw (c.plain5.ensures, c.before.complement2.ensures, c.before.before.before.before.power.ensures, c.before.before.enum-told5.given.1)
 
 returns-6 : tie.Need-returns-6
-unfolding outcomeOf bitOperation
+unfolding outcome_of bit_operation
 returns-6 c = rw (c.plus.ensures, c.before.before.before.power.ensures, c.before.before.before.before.low.ensures, c.before.enum-told6.given.1)
 
 returns-7 : tie.Need-returns-7
-unfolding outcomeOf bitOperation
+unfolding outcome_of bit_operation
 returns-7 c = rw (c.minus.ensures, c.before.before.before.power.ensures, c.before.before.before.before.low.ensures, c.before.enum-told7.given.1)
 
 pub bit-operation-spec : {M : Type 1} → statement M

@@ -1,4 +1,4 @@
-use Rattle.alu.specs.Operations.{outcomeOf, oneOperand}
+use Rattle.alu.specs.Operations.{outcome_of, one_operand}
 use borrow.Author.Rules.{rules}
 use Rattle.alu.proofs.logic.one_operand.Statement.{statement}
 use Rattle.alu.proofs.logic.one_operand.Tie as tie
@@ -34,19 +34,19 @@ minus-requires : tie.Need-minus-requires
 minus-requires c κs = search rules
 
 returns : tie.Need-returns
-unfolding outcomeOf oneOperand
+unfolding outcome_of one_operand
 returns c = rw (c.plain.ensures, c.before.before.before.low.ensures, c.before.enum_told.given.1)
 
 returns-2 : tie.Need-returns-2
-unfolding outcomeOf oneOperand
+unfolding outcome_of one_operand
 returns-2 c = rw (c.plain2.ensures, c.before.complement.ensures, c.before.before.before.before.low.ensures, c.before.before.enum-told2.given.1)
 
 returns-3 : tie.Need-returns-3
-unfolding outcomeOf oneOperand
+unfolding outcome_of one_operand
 returns-3 c = rw (c.plus.ensures, c.before.before.before.low.ensures, c.before.enum-told3.given.1)
 
 returns-4 : tie.Need-returns-4
-unfolding outcomeOf oneOperand
+unfolding outcome_of one_operand
 returns-4 c = rw (c.minus.ensures, c.before.before.before.low.ensures, c.before.enum-told4.given.1)
 
 pub one-operand-spec : {M : Type 1} → statement M

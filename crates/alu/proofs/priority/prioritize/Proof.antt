@@ -1,5 +1,5 @@
-use Rattle.alu.proofs.Fits.{unmasked-low}
-use Rattle.alu.specs.Operations.{outcomeOf, prioritize}
+use Rattle.alu.proofs.Fits.{unmasked_low}
+use Rattle.alu.specs.Operations.{outcome_of, prioritize}
 use borrow.Author.Rules.{rules}
 use Rattle.alu.proofs.priority.prioritize.Statement.{statement}
 use Rattle.alu.proofs.priority.prioritize.Tie as tie
@@ -20,8 +20,8 @@ plain-requires : tie.Need-plain-requires
 plain-requires c κs = search rules
 
 returns : tie.Need-returns
-unfolding outcomeOf prioritize
-returns c = rw (c.plain.ensures, c.before.priority.ensures, c.before.before.complement.ensures, c.before.before.before.low2.ensures, c.before.before.before.before.low.ensures, unmasked-low)
+unfolding outcome_of prioritize
+returns c = rw (c.plain.ensures, c.before.priority.ensures, c.before.before.complement.ensures, c.before.before.before.low2.ensures, c.before.before.before.before.low.ensures, unmasked_low)
 
 pub prioritize-spec : {M : Type 1} → statement M
 prioritize-spec =

@@ -3,7 +3,7 @@ use borrow.Author.Tests.{eq-eqb, ne_eqb}
 use lib.Count.{leading_le}
 use native.Mathlib.Omega.{arith}
 use mathlib.Core.Path.{◌∙◌}
-use Rattle.alu.proofs.Fits.{zeros-counted}
+use Rattle.alu.proofs.Fits.{zeros_counted}
 use borrow.Author.Rules.{rules}
 use Rattle.alu.proofs.priority.priority.Statement.{statement}
 use Rattle.alu.proofs.priority.priority.Tie as tie
@@ -25,7 +25,7 @@ add-result-2 c = omega (arith, leading_le 16 c.before.before.low.result)
 
 sub-result : tie.Need-overflow-sub-result
 sub-result c =
-    (zeros-counted c.before.before.before.args.mode c.before.before.before.args.x c.before.before.low.result c.width.result
+    (zeros_counted c.before.before.before.args.mode c.before.before.before.args.x c.before.before.low.result c.width.result
     c.width.ensures c.before.before.low.ensures).0
 
 cast-result-2 : tie.Need-overflow-cast-result-2
@@ -38,7 +38,7 @@ returns c = rw (← c.before.low.ensures, eq-eqb _ _ c.if1.true)
 returns-2 : tie.Need-returns-2
 unfolding priority
 returns-2 c =
-    (zeros-counted c.before.before.before.args.mode c.before.before.before.args.x c.before.before.low.result c.width.result
+    (zeros_counted c.before.before.before.args.mode c.before.before.before.args.x c.before.before.low.result c.width.result
     c.width.ensures c.before.before.low.ensures).1
     ∙ rw (← c.before.before.low.ensures, ne_eqb _ _ c.before.if1.false, c.width.ensures.is)
 

@@ -1,4 +1,4 @@
-use Rattle.alu.specs.Operations.{outcomeOf, compare}
+use Rattle.alu.specs.Operations.{outcome_of, compare}
 use borrow.Author.Rules.{rules}
 use Rattle.alu.proofs.rotates.compare.Statement.{statement}
 use Rattle.alu.proofs.rotates.compare.Tie as tie
@@ -19,7 +19,7 @@ plain-requires : tie.Need-plain-requires
 plain-requires c κs = search rules
 
 returns : tie.Need-returns
-unfolding outcomeOf compare
+unfolding outcome_of compare
 returns c = rw (c.plain.ensures, c.before.complement.ensures, c.before.before.rotated.ensures, c.before.before.before.low2.ensures, c.before.before.before.before.low.ensures)
 
 pub compare-spec : {M : Type 1} → statement M

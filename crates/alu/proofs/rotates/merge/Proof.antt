@@ -1,4 +1,4 @@
-use Rattle.alu.specs.Operations.{outcomeOf, merge}
+use Rattle.alu.specs.Operations.{outcome_of, merge}
 use borrow.Author.Rules.{rules}
 use Rattle.alu.proofs.rotates.merge.Statement.{statement}
 use Rattle.alu.proofs.rotates.merge.Tie as tie
@@ -19,7 +19,7 @@ plain-requires : tie.Need-plain-requires
 plain-requires c κs = search rules
 
 returns : tie.Need-returns
-unfolding outcomeOf merge
+unfolding outcome_of merge
 returns c = rw (c.plain.ensures, c.before.complement.ensures, c.before.before.rotated.ensures, c.before.before.before.low2.ensures, c.before.before.before.before.low.ensures)
 
 pub merge-spec : {M : Type 1} → statement M

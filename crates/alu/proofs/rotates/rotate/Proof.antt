@@ -1,4 +1,4 @@
-use Rattle.alu.specs.Operations.{outcomeOf, rotate}
+use Rattle.alu.specs.Operations.{outcome_of, rotate}
 use borrow.Author.Rules.{rules}
 use Rattle.alu.proofs.rotates.rotate.Statement.{statement}
 use Rattle.alu.proofs.rotates.rotate.Tie as tie
@@ -10,7 +10,7 @@ plain-requires : tie.Need-plain-requires
 plain-requires c κs = search rules
 
 returns : tie.Need-returns
-unfolding outcomeOf rotate
+unfolding outcome_of rotate
 returns c = rw (c.plain.ensures, c.before.rotated.ensures)
 
 pub rotate-spec : {M : Type 1} → statement M

@@ -2,7 +2,7 @@ use Prim.Native.Nat.{◌/◌}
 use Rattle.alu.specs.Operations.{rotated}
 use native.Mathlib.Nat.{le_trans, le_of_lt, mod-lt, div-le_self}
 use native.Mathlib.Omega.{arith}
-use Rattle.alu.proofs.Fits.{moved-fits}
+use Rattle.alu.proofs.Fits.{moved_fits}
 use borrow.Author.Rules.{rules}
 use Rattle.alu.proofs.rotates.rotated.Statement.{statement}
 use Rattle.alu.proofs.rotates.rotated.Tie as tie
@@ -32,7 +32,7 @@ power-of-two-requires-2 : tie.Need-power-of-two-requires-2
 power-of-two-requires-2 c κs = le_trans (le_of_lt (mod-lt c.before.before.before.args.n c.before.width.ensures.positive)) c.before.width.ensures.room
 
 add_low : tie.Need-overflow-add-low
-add_low c = omega (arith, moved-fits c.before.before.before.low.result c.power-of-two2.result (c.before.before.before.low.result / c.before.power-of-two.result) (search rules) c.power-of-two2.ensures.room (div-le_self c.before.before.before.low.result c.before.power-of-two.result))
+add_low c = omega (arith, moved_fits c.before.before.before.low.result c.power-of-two2.result (c.before.before.before.low.result / c.before.power-of-two.result) (search rules) c.power-of-two2.ensures.room (div-le_self c.before.before.before.low.result c.before.power-of-two.result))
 
 mul_low : tie.Need-overflow-mul-low
 mul_low c = omega (arith, add_low c)

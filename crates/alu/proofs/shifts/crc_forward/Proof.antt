@@ -1,4 +1,4 @@
-use Rattle.alu.specs.Operations.{outcomeOf, crcForward}
+use Rattle.alu.specs.Operations.{outcome_of, crc_forward}
 use borrow.Author.Rules.{rules}
 use Rattle.alu.proofs.shifts.crc_forward.Statement.{statement}
 use Rattle.alu.proofs.shifts.crc_forward.Tie as tie
@@ -22,7 +22,7 @@ crc-step-requires : tie.Need-crc-step-requires
 crc-step-requires c κs = search rules
 
 returns : tie.Need-returns
-unfolding outcomeOf crcForward
+unfolding outcome_of crc_forward
 returns c = rw (c.crc-step.ensures, c.before.before.moved_up.ensures, c.before.before.before.top_bit.ensures, c.before.low2.ensures, c.before.before.before.before.low.ensures)
 
 pub crc-forward-spec : {M : Type 1} → statement M

@@ -1,4 +1,4 @@
-use Rattle.alu.specs.Operations.{outcomeOf, crcReverse}
+use Rattle.alu.specs.Operations.{outcome_of, crc_reverse}
 use borrow.Author.Rules.{rules}
 use Rattle.alu.proofs.shifts.crc_reverse.Statement.{statement}
 use Rattle.alu.proofs.shifts.crc_reverse.Tie as tie
@@ -19,7 +19,7 @@ crc-step-requires : tie.Need-crc-step-requires
 crc-step-requires c κs = search rules
 
 returns : tie.Need-returns
-unfolding outcomeOf crcReverse
+unfolding outcome_of crc_reverse
 returns c = rw (c.crc-step.ensures, c.before.before.moved_down.ensures, c.before.low2.ensures, c.before.before.before.low.ensures)
 
 pub crc-reverse-spec : {M : Type 1} → statement M

@@ -1,4 +1,4 @@
-use Rattle.alu.specs.Operations.{crcStep}
+use Rattle.alu.specs.Operations.{crc_step}
 use borrow.Author.Rules.{rules}
 use Rattle.alu.proofs.shifts.crc_step.Statement.{statement}
 use Rattle.alu.proofs.shifts.crc_step.Tie as tie
@@ -16,7 +16,7 @@ linked-requires : tie.Need-linked-requires
 linked-requires c κs = search rules
 
 returns : tie.Need-returns
-unfolding crcStep
+unfolding crc_step
 returns c = rw (c.linked.ensures, c.before.plain.ensures, c.before.before.gated.ensures.0)
 
 pub crc-step-spec : {M : Type 1} → statement M

@@ -1,4 +1,4 @@
-use Rattle.alu.specs.Operations.{movedDown}
+use Rattle.alu.specs.Operations.{moved_down}
 use borrow.Author.Rules.{rules}
 use Rattle.alu.proofs.shifts.moved_down.Statement.{statement}
 use Rattle.alu.proofs.shifts.moved_down.Tie as tie
@@ -16,7 +16,7 @@ cast-result : tie.Need-overflow-cast-result
 cast-result c = search rules
 
 returns : tie.Need-returns
-unfolding movedDown
+unfolding moved_down
 returns c = rw (c.gated.ensures.0, c.before.size.ensures.is)
 
 pub moved-down-spec : {M : Type 1} → statement M

@@ -1,4 +1,4 @@
-use Rattle.alu.specs.Operations.{movedUp}
+use Rattle.alu.specs.Operations.{moved_up}
 use borrow.Author.Rules.{rules}
 use Rattle.alu.proofs.shifts.moved_up.Statement.{statement}
 use Rattle.alu.proofs.shifts.moved_up.Tie as tie
@@ -13,7 +13,7 @@ low-requires : tie.Need-low-requires
 low-requires c κs = search rules
 
 returns : tie.Need-returns
-unfolding movedUp
+unfolding moved_up
 returns c = rw c.low.ensures
 
 pub moved-up-spec : {M : Type 1} → statement M

@@ -1,4 +1,4 @@
-use Rattle.alu.specs.Operations.{shiftDown}
+use Rattle.alu.specs.Operations.{shift_down}
 use borrow.Author.Rules.{rules}
 use Rattle.alu.proofs.shifts.shift_down.Statement.{statement}
 use Rattle.alu.proofs.shifts.shift_down.Tie as tie
@@ -16,7 +16,7 @@ linked-requires : tie.Need-linked-requires
 linked-requires c κs = search rules
 
 returns : tie.Need-returns
-unfolding shiftDown
+unfolding shift_down
 returns c = rw (c.linked.ensures, c.before.plain.ensures, c.before.before.moved_down.ensures)
 
 pub shift-down-spec : {M : Type 1} → statement M

@@ -1,4 +1,4 @@
-use Rattle.alu.specs.Operations.{shiftUp}
+use Rattle.alu.specs.Operations.{shift_up}
 use borrow.Author.Rules.{rules}
 use Rattle.alu.proofs.shifts.shift_up.Statement.{statement}
 use Rattle.alu.proofs.shifts.shift_up.Tie as tie
@@ -16,7 +16,7 @@ linked-requires : tie.Need-linked-requires
 linked-requires c κs = search rules
 
 returns : tie.Need-returns
-unfolding shiftUp
+unfolding shift_up
 returns c = rw (c.linked.ensures, c.before.plain.ensures, c.before.before.moved_up.ensures, c.before.before.before.top_bit.ensures)
 
 pub shift-up-spec : {M : Type 1} → statement M

@@ -1,15 +1,15 @@
 -- `files::reading::count_rest` meets its contract: what is kept stays short, and the turns get fewer.
 use Prim.Native.Nat.{◌+◌, ◌<◌}
 use native.Mathlib.Omega.{arith}
-use Rattle.trace.specs.Layout.{wordsPerRecord, blockBytes}
-use Rattle.trace.specs.Limits.{tooLong}
+use Rattle.trace.specs.Layout.{words_per_record, block_bytes}
+use Rattle.trace.specs.Limits.{too_long}
 use Rattle.trace.proofs.Long.{kept-lt}
 use borrow.Author.Rules.{rules}
 use Rattle.files.proofs.reading.count_rest.Statement.{statement}
 use Rattle.files.proofs.reading.count_rest.Tie as tie
 
 abbrev invariant-loop : tie.invariant-loop
-invariant-loop file first kept₀ turns₀ kept turns = kept < tooLong wordsPerRecord + blockBytes
+invariant-loop file first kept₀ turns₀ kept turns = kept < too_long words_per_record + block_bytes
 
 abbrev decreases-loop : tie.decreases-loop
 decreases-loop file first kept₀ turns₀ kept turns = turns

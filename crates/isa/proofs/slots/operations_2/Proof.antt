@@ -1,5 +1,5 @@
 -- `isa::slots::operations_2` meets its contract: each arm is a stretch of fields over which the slot is what the arm answers.
-use Rattle.isa.proofs.Arms.{one-row, by-b}
+use Rattle.isa.proofs.Arms.{one_row, by-b}
 use native.Mathlib.Omega.{arith}
 use borrow.Author.Rules.{rules}
 use Rattle.isa.proofs.slots.operations_2.Statement.{statement}
@@ -24,10 +24,10 @@ one-operand-2-requires : tie.Need-one-operand-2-requires
 one-operand-2-requires c κs = search rules
 
 returns : tie.Need-returns
-returns c = one-row 2 0 2 0 1 0 12 27 tt c.before.args.mark c.before.args.a c.before.args.b (omega arith)
+returns c = one_row 2 0 2 0 1 0 12 27 tt c.before.args.mark c.before.args.a c.before.args.b (omega arith)
 
 returns-2 : tie.Need-returns-2
-returns-2 c = one-row 2 0 2 5 1 0 12 7 tt c.before.args.mark c.before.args.a c.before.args.b (omega arith)
+returns-2 c = one_row 2 0 2 5 1 0 12 7 tt c.before.args.mark c.before.args.a c.before.args.b (omega arith)
 
 returns-3 : tie.Need-returns-3
 returns-3 c = by-b 2 0 1 6 1 0 12 0 6 tt c.before.before.before.args.mark c.before.before.before.args.a c.before.before.before.args.b _ 12 (omega arith) (omega arith) c.shift-2.ensures
@@ -42,13 +42,13 @@ returns-6 : tie.Need-returns-6
 returns-6 c = by-b 2 0 2 8 1 0 12 0 8 tt c.before.before.args.mark c.before.before.args.a c.before.before.args.b _ 12 (omega arith) (omega arith) c.prioritize-2.ensures
 
 returns-7 : tie.Need-returns-7
-returns-7 c = one-row 2 0 2 9 1 0 12 27 tt c.before.args.mark c.before.args.a c.before.args.b (omega arith)
+returns-7 c = one_row 2 0 2 9 1 0 12 27 tt c.before.args.mark c.before.args.a c.before.args.b (omega arith)
 
 returns-8 : tie.Need-returns-8
-returns-8 c = one-row 2 0 2 1 2 0 12 7 tt c.before.before.args.mark c.before.before.args.a c.before.before.args.b (omega arith)
+returns-8 c = one_row 2 0 2 1 2 0 12 7 tt c.before.before.args.mark c.before.before.args.a c.before.before.args.b (omega arith)
 
 returns-9 : tie.Need-returns-9
-returns-9 c = one-row 2 0 2 3 2 0 12 27 tt c.before.before.before.args.mark c.before.before.before.args.a c.before.before.before.args.b (omega arith)
+returns-9 c = one_row 2 0 2 3 2 0 12 27 tt c.before.before.before.args.mark c.before.before.before.args.a c.before.before.before.args.b (omega arith)
 
 returns-10 : tie.Need-returns-10
 returns-10 c = by-b 2 0 2 10 2 0 12 0 8 tt c.before.before.before.before.before.args.mark c.before.before.before.before.before.args.a c.before.before.before.before.before.args.b _ 12 (omega arith) (omega arith) c.prioritize-22.ensures

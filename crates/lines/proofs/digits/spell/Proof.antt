@@ -7,7 +7,7 @@ use native.Mathlib.Nat.{mod-lt}
 use lib.Seq.{drop-length}
 use lib.ListN.{length, drop, length-set}
 use Rattle.choice.specs.Text.{numeral}
-use Rattle.lines.proofs.Spelled.{spell-step}
+use Rattle.lines.proofs.Spelled.{spell_step}
 use Rattle.lines.proofs.digits.spell.Statement.{statement}
 use Rattle.lines.proofs.digits.spell.Tie as tie
 
@@ -54,7 +54,7 @@ loop-again c =
     let loop = c.before.before.loop in (
       simp length-set (omega arith),
       simp length-set loop.invariant.1,
-      spell-step start.args.base loop.i loop.rest c.digit-of.result loop.part (omega arith) loop.invariant.0 c.digit-of.ensures ∙ loop.invariant.2,
+      spell_step start.args.base loop.i loop.rest c.digit-of.result loop.part (omega arith) loop.invariant.0 c.digit-of.ensures ∙ loop.invariant.2,
     )
 
 same_length : tie.Need-same-length invariant-loop decreases-loop

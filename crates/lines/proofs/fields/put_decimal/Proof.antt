@@ -8,7 +8,7 @@ use lib.Seq.{take_all}
 use borrow.Author.Rules.{rules}
 use Rattle.choice.specs.Text.{trimmed, decimal}
 use Rattle.lines.specs.Putting.{Puts}
-use Rattle.lines.proofs.Putting.{puts-last}
+use Rattle.lines.proofs.Putting.{puts_last}
 use Rattle.lines.proofs.fields.put_decimal.Statement.{statement}
 use Rattle.lines.proofs.fields.put_decimal.Tie as tie
 
@@ -56,7 +56,7 @@ returns c =
     let same : take (20 - from) (drop from all) ≡ decimal start.args.x = take_all (20 - from) (drop from all) long ∙ c.before.before.before.before.before.before.zeros.ensures.1 ∙ ap trimmed c.before.before.before.before.before.before.before.before.before.spell.ensures in
     let few : length (take (20 - from) (drop from all)) ≤ 20 = simp length-take (omega arith) in
     let put = subst (λ (l : List ℕ). Puts l start.args.at end start.args.line.now c.before.before.put-text.new.1.1.0) same c.before.before.put-text.ensures in (
-      puts-last (decimal start.args.x) start.args.at end start.args.last start.args.line.now c.before.before.put-text.new.1.1.0 put (omega arith),
+      puts_last (decimal start.args.x) start.args.at end start.args.last start.args.line.now c.before.before.put-text.new.1.1.0 put (omega arith),
       omega (arith, c.before.before.put-text.ensures.end, few),
     )
 

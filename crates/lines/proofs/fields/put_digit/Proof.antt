@@ -2,8 +2,8 @@
 use native.Mathlib.Omega.{arith}
 use lib.ListN.{length-set}
 use borrow.Author.Rules.{rules}
-use Rattle.choice.specs.Text.{digitOrNone}
-use Rattle.lines.proofs.Putting.{puts-two}
+use Rattle.choice.specs.Text.{digit_or_none}
+use Rattle.lines.proofs.Putting.{puts_two}
 use Rattle.lines.proofs.fields.put_digit.Statement.{statement}
 use Rattle.lines.proofs.fields.put_digit.Tie as tie
 
@@ -28,7 +28,7 @@ same_length c = search rules
 returns : tie.Need-returns
 returns c =
     let start = c.before.before in
-    rw c.digit-or-none.ensures (puts-two start.args.line.now start.args.at (digitOrNone start.args.limit start.args.x) start.args.last start.requires.0)
+    rw c.digit-or-none.ensures (puts_two start.args.line.now start.args.at (digit_or_none start.args.limit start.args.x) start.args.last start.requires.0)
 
 pub put-digit-spec : {M : Type 1} → statement M
 put-digit-spec =

@@ -5,8 +5,8 @@ use native.Mathlib.Omega.{arith}
 use lib.ListN.{length, take, drop, length-take, length-drop}
 use borrow.Author.Rules.{rules}
 use Rattle.choice.specs.Text.{numeral}
-use Rattle.lines.proofs.Spelled.{length-numeral}
-use Rattle.lines.proofs.Putting.{puts-part, part-long, puts-last}
+use Rattle.lines.proofs.Spelled.{length_numeral}
+use Rattle.lines.proofs.Putting.{puts-part, part-long, puts_last}
 use Rattle.lines.proofs.fields.put_numeral.Statement.{statement}
 use Rattle.lines.proofs.fields.put_numeral.Tie as tie
 
@@ -44,9 +44,9 @@ returns c =
     let size : length (take (end - at) (drop at line)) ≡ start.args.count = simp (length-take, length-drop) (omega arith) in
     let digits = numeral start.args.base start.args.count start.args.x in
     let same : made ≡ digits = c.before.before.spell.ensures ∙ ap (λ (n : ℕ). numeral start.args.base n start.args.x) size in
-    let ends : end ≡ at + length digits = omega (arith, length-numeral start.args.base start.args.count start.args.x) in
+    let ends : end ≡ at + length digits = omega (arith, length_numeral start.args.base start.args.count start.args.x) in
     let fits : end ≤ length line = omega arith in
-    (puts-last digits at end start.args.last line _ (puts-part line made digits at end same ends fits) (omega (arith, part-long line made digits at end same ends fits)), refl)
+    (puts_last digits at end start.args.last line _ (puts-part line made digits at end same ends fits) (omega (arith, part-long line made digits at end same ends fits)), refl)
 
 pub put-numeral-spec : {M : Type 1} → statement M
 put-numeral-spec =

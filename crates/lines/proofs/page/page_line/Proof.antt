@@ -3,7 +3,7 @@ use mathlib.Core.Path.{refl, sym}
 use Prim.Native.Nat.{◌-◌}
 use native.Mathlib.Omega.{arith}
 use borrow.Author.Rules.{rules}
-use Rattle.lines.proofs.Answered.{made_all, makes-as}
+use Rattle.lines.proofs.Answered.{made_all, makes_as}
 use Rattle.lines.proofs.Paged.{page-cycle, page-state, page-register, page-last, page-past}
 use Rattle.lines.proofs.page.page_line.Statement.{statement}
 use Rattle.lines.proofs.page.page_line.Tie as tie
@@ -17,7 +17,7 @@ same_length c = search rules
 returns : tie.Need-returns
 returns c =
     let a = c.before.before.before.before.before.before.before.before.before.before.args in
-    makes-as (sym (page-cycle a.ran a.reports.now a.index c.before.before.before.before.if1.true)) c.before.before.report-line.ensures
+    makes_as (sym (page-cycle a.ran a.reports.now a.index c.before.before.before.before.if1.true)) c.before.before.report-line.ensures
 
 state-line-requires : tie.Need-state-line-requires
 state-line-requires c κs = search rules
@@ -28,7 +28,7 @@ same-length-2 c = search rules
 returns-2 : tie.Need-returns-2
 returns-2 c =
     let a = c.before.before.before.before.before.before.before.before.before.before.before.before.args in
-    makes-as (sym (page-state a.ran a.reports.now a.index (omega arith))) c.before.before.state-line.ensures
+    makes_as (sym (page-state a.ran a.reports.now a.index (omega arith))) c.before.before.state_line_lem.ensures
 
 sub-register-line : tie.Need-overflow-sub-register-line
 sub-register-line c = search rules
@@ -52,7 +52,7 @@ returns-3 : tie.Need-returns-3
 returns-3 c =
     let a = c.before.before.before.before.before.before.before.before.before.before.before.before.before.before.args in
     let k = a.index - a.ran.accepted - 1 in
-    makes-as (sym (page-register a.ran a.reports.now a.index k (omega arith) (omega arith))) c.before.before.register-line.ensures
+    makes_as (sym (page-register a.ran a.reports.now a.index k (omega arith) (omega arith))) c.before.before.register_line_lem.ensures
 
 add-if4 : tie.Need-overflow-add-if4
 add-if4 c = search rules
@@ -66,12 +66,12 @@ same-length-4 c = search rules
 returns-4 : tie.Need-returns-4
 returns-4 c =
     let a = c.before.before.before.before.before.before.before.before.before.before.before.before.before.before.args in
-    makes-as (sym (page-last a.ran a.reports.now a.index (omega arith))) c.before.before.last_line.ensures
+    makes_as (sym (page-last a.ran a.reports.now a.index (omega arith))) c.before.before.last_line.ensures
 
 returns-5 : tie.Need-returns-5
 returns-5 c =
     let a = c.before.before.before.before.before.before.before.before.before.before.args in
-    makes-as (sym (page-past a.ran a.reports.now a.index (a.index - a.ran.accepted - 34) (omega arith))) (made_all 0 a.out.now (omega arith) refl refl)
+    makes_as (sym (page-past a.ran a.reports.now a.index (a.index - a.ran.accepted - 34) (omega arith))) (made_all 0 a.out.now (omega arith) refl refl)
 
 pub page-line-spec : {M : Type 1} → statement M
 page-line-spec =

@@ -1,6 +1,6 @@
 -- `lines::remarks::put_block` meets its contract: three texts.
 use native.Mathlib.Omega.{arith}
-use Rattle.lines.proofs.Putting.{puts-both}
+use Rattle.lines.proofs.Putting.{puts_both}
 use borrow.Author.Rules.{rules}
 use Rattle.lines.proofs.remarks.put_block.Statement.{statement}
 use Rattle.lines.proofs.remarks.put_block.Tie as tie
@@ -35,7 +35,7 @@ same_length c = search rules
 
 -- src/remarks.rt:56:1
 returns : tie.Need-returns
-returns c = (puts-both (puts-both c.before.before.before.before.before.before.before.before.before.before.before.put-number.ensures.0 c.before.before.before.before.before.before.put-text.ensures) c.before.before.put-text2.ensures, omega (arith, c.before.before.before.before.before.before.before.before.before.before.before.put-number.ensures.1, c.before.before.before.before.before.before.put-text.ensures.end, c.before.before.put-text2.ensures.end))
+returns c = (puts_both (puts_both c.before.before.before.before.before.before.before.before.before.before.before.put-number.ensures.0 c.before.before.before.before.before.before.put-text.ensures) c.before.before.put-text2.ensures, omega (arith, c.before.before.before.before.before.before.before.before.before.before.before.put-number.ensures.1, c.before.before.before.before.before.before.put-text.ensures.end, c.before.before.put-text2.ensures.end))
 
 pub put-block-spec : {M : Type 1} → statement M
 put-block-spec =

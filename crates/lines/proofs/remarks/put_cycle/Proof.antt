@@ -1,6 +1,6 @@
 -- `lines::remarks::put_cycle` meets its contract: three texts.
 use native.Mathlib.Omega.{arith}
-use Rattle.lines.proofs.Putting.{puts-both}
+use Rattle.lines.proofs.Putting.{puts_both}
 use borrow.Author.Rules.{rules}
 use Rattle.lines.proofs.remarks.put_cycle.Statement.{statement}
 use Rattle.lines.proofs.remarks.put_cycle.Tie as tie
@@ -32,7 +32,7 @@ same_length c = search rules
 
 -- src/remarks.rt:65:1
 returns : tie.Need-returns
-returns c = (puts-both (puts-both c.before.before.before.before.before.before.before.before.before.before.put-number.ensures.0 c.before.before.before.before.before.before.put-hex.ensures.0) c.before.before.put-text.ensures, omega (arith, c.before.before.before.before.before.before.before.before.before.before.put-number.ensures.1, c.before.before.before.before.before.before.put-hex.ensures.1, c.before.before.put-text.ensures.end))
+returns c = (puts_both (puts_both c.before.before.before.before.before.before.before.before.before.before.put-number.ensures.0 c.before.before.before.before.before.before.put-hex.ensures.0) c.before.before.put-text.ensures, omega (arith, c.before.before.before.before.before.before.before.before.before.before.put-number.ensures.1, c.before.before.before.before.before.before.put-hex.ensures.1, c.before.before.put-text.ensures.end))
 
 pub put-cycle-spec : {M : Type 1} → statement M
 put-cycle-spec =

@@ -1,8 +1,8 @@
 -- `lines::remarks::put_cycle_reason` meets its contract: a row of the table an arm.
-use Rattle.lines.proofs.Putting.{puts-by}
+use Rattle.lines.proofs.Putting.{puts_by}
 use Prim.Native.Nat.{ℕ}
 use Rattle.lines.proofs.Unlisted.{only-ten}
-use Rattle.lines.specs.Remarks.{meaningOf, reasonText}
+use Rattle.lines.specs.Remarks.{meaning_of, reason_text}
 use borrow.Author.Rules.{rules}
 use Rattle.lines.proofs.remarks.put_cycle_reason.Statement.{statement}
 use Rattle.lines.proofs.remarks.put_cycle_reason.Tie as tie
@@ -65,43 +65,43 @@ same_length : tie.Need-same-length
 same_length c = search rules
 
 returns : tie.Need-returns
-unfolding meaningOf
-returns c = let a = c.before.before.before.before.before.before.before.before.args in (puts-by (λ (n : ℕ). reasonText (meaningOf n) a.index a.word a.pins) c.before.before.before.before.before.before.match.keys1 c.before.before.put-cycle.ensures.0, c.before.before.put-cycle.ensures.1)
+unfolding meaning_of
+returns c = let a = c.before.before.before.before.before.before.before.before.args in (puts_by (λ (n : ℕ). reason_text (meaning_of n) a.index a.word a.pins) c.before.before.before.before.before.before.match.keys1 c.before.before.put-cycle.ensures.0, c.before.before.put-cycle.ensures.1)
 
 same-length-2 : tie.Need-same-length-2
 same-length-2 c = search rules
 
 returns-2 : tie.Need-returns-2
-unfolding meaningOf
-returns-2 c = let a = c.before.before.before.before.before.before.before.before.args in (puts-by (λ (n : ℕ). reasonText (meaningOf n) a.index a.word a.pins) c.before.before.before.before.before.before.match.keys2 c.before.before.put-cycle2.ensures.0, c.before.before.put-cycle2.ensures.1)
+unfolding meaning_of
+returns-2 c = let a = c.before.before.before.before.before.before.before.before.args in (puts_by (λ (n : ℕ). reason_text (meaning_of n) a.index a.word a.pins) c.before.before.before.before.before.before.match.keys2 c.before.before.put-cycle2.ensures.0, c.before.before.put-cycle2.ensures.1)
 
 same-length-3 : tie.Need-same-length-3
 same-length-3 c = search rules
 
 returns-3 : tie.Need-returns-3
-unfolding meaningOf
-returns-3 c = let a = c.before.before.before.before.before.before.before.before.args in (puts-by (λ (n : ℕ). reasonText (meaningOf n) a.index a.word a.pins) c.before.before.before.before.before.before.match.keys3 c.before.before.put-cycle3.ensures.0, c.before.before.put-cycle3.ensures.1)
+unfolding meaning_of
+returns-3 c = let a = c.before.before.before.before.before.before.before.before.args in (puts_by (λ (n : ℕ). reason_text (meaning_of n) a.index a.word a.pins) c.before.before.before.before.before.before.match.keys3 c.before.before.put-cycle3.ensures.0, c.before.before.put-cycle3.ensures.1)
 
 same-length-4 : tie.Need-same-length-4
 same-length-4 c = search rules
 
 returns-4 : tie.Need-returns-4
-unfolding meaningOf
-returns-4 c = let a = c.before.before.before.before.before.before.before.before.args in (puts-by (λ (n : ℕ). reasonText (meaningOf n) a.index a.word a.pins) c.before.before.before.before.before.before.match.keys4 c.before.before.put-cycle4.ensures.0, c.before.before.put-cycle4.ensures.1)
+unfolding meaning_of
+returns-4 c = let a = c.before.before.before.before.before.before.before.before.args in (puts_by (λ (n : ℕ). reason_text (meaning_of n) a.index a.word a.pins) c.before.before.before.before.before.before.match.keys4 c.before.before.put-cycle4.ensures.0, c.before.before.put-cycle4.ensures.1)
 
 same-length-5 : tie.Need-same-length-5
 same-length-5 c = search rules
 
 returns-5 : tie.Need-returns-5
-unfolding meaningOf
-returns-5 c = let a = c.before.before.before.before.before.before.before.before.args in (puts-by (λ (n : ℕ). reasonText (meaningOf n) a.index a.word a.pins) c.before.before.before.before.before.before.match.keys5 c.before.before.put-cycle5.ensures.0, c.before.before.put-cycle5.ensures.1)
+unfolding meaning_of
+returns-5 c = let a = c.before.before.before.before.before.before.before.before.args in (puts_by (λ (n : ℕ). reason_text (meaning_of n) a.index a.word a.pins) c.before.before.before.before.before.before.match.keys5 c.before.before.put-cycle5.ensures.0, c.before.before.put-cycle5.ensures.1)
 
 same-length-6 : tie.Need-same-length-6
 same-length-6 c = search rules
 
 returns-6 : tie.Need-returns-6
-unfolding meaningOf
-returns-6 c = let a = c.before.before.before.before.before.before.before.before.args in (puts-by (λ (n : ℕ). reasonText (meaningOf n) a.index a.word a.pins) (only-ten a.number c.before.before.before.before.before.before.before.before.requires.0 c.before.before.before.before.before.before.before.before.requires.1 c.before.before.before.before.before.before.match.rest) c.before.before.put-cycle6.ensures.0, c.before.before.put-cycle6.ensures.1)
+unfolding meaning_of
+returns-6 c = let a = c.before.before.before.before.before.before.before.before.args in (puts_by (λ (n : ℕ). reason_text (meaning_of n) a.index a.word a.pins) (only-ten a.number c.before.before.before.before.before.before.before.before.requires.0 c.before.before.before.before.before.before.before.before.requires.1 c.before.before.before.before.before.before.match.rest) c.before.before.put-cycle6.ensures.0, c.before.before.put-cycle6.ensures.1)
 
 pub put-cycle-reason-spec : {M : Type 1} → statement M
 put-cycle-reason-spec =

@@ -1,6 +1,6 @@
 -- `lines::remarks::put_name` meets its contract: one text an arm.
 use native.Mathlib.Omega.{arith}
-use Rattle.lines.proofs.Putting.{puts-by}
+use Rattle.lines.proofs.Putting.{puts_by}
 use mathlib.Core.List.{◌++◌}
 use Rattle.choice.specs.Text.{ascii}
 use Rattle.lines.specs.declared.Program.{Program}
@@ -78,7 +78,7 @@ same_length c = search rules
 
 -- src/remarks.rt:18:1
 returns : tie.Need-returns
-returns c = (puts-by (λ (x : Program). name_of x ++ ascii ": ") c.before.before.before.before.before.enum_told.given.1 c.before.before.put-text.ensures, omega (arith, c.before.before.put-text.ensures.end))
+returns c = (puts_by (λ (x : Program). name_of x ++ ascii ": ") c.before.before.before.before.before.enum_told.given.1 c.before.before.put-text.ensures, omega (arith, c.before.before.put-text.ensures.end))
 
 -- src/remarks.rt:18:1
 same-length-2 : tie.Need-same-length-2
@@ -86,7 +86,7 @@ same-length-2 c = search rules
 
 -- src/remarks.rt:18:1
 returns-2 : tie.Need-returns-2
-returns-2 c = (puts-by (λ (x : Program). name_of x ++ ascii ": ") c.before.before.before.before.before.enum-told2.given.1 c.before.before.put-text2.ensures, omega (arith, c.before.before.put-text2.ensures.end))
+returns-2 c = (puts_by (λ (x : Program). name_of x ++ ascii ": ") c.before.before.before.before.before.enum-told2.given.1 c.before.before.put-text2.ensures, omega (arith, c.before.before.put-text2.ensures.end))
 
 -- src/remarks.rt:18:1
 same-length-3 : tie.Need-same-length-3
@@ -94,7 +94,7 @@ same-length-3 c = search rules
 
 -- src/remarks.rt:18:1
 returns-3 : tie.Need-returns-3
-returns-3 c = (puts-by (λ (x : Program). name_of x ++ ascii ": ") c.before.before.before.before.before.enum-told3.given.1 c.before.before.put-text3.ensures, omega (arith, c.before.before.put-text3.ensures.end))
+returns-3 c = (puts_by (λ (x : Program). name_of x ++ ascii ": ") c.before.before.before.before.before.enum-told3.given.1 c.before.before.put-text3.ensures, omega (arith, c.before.before.put-text3.ensures.end))
 
 -- src/remarks.rt:18:1
 same-length-4 : tie.Need-same-length-4
@@ -102,7 +102,7 @@ same-length-4 c = search rules
 
 -- src/remarks.rt:18:1
 returns-4 : tie.Need-returns-4
-returns-4 c = (puts-by (λ (x : Program). name_of x ++ ascii ": ") c.before.before.before.before.before.enum-told4.given.1 c.before.before.put-text4.ensures, omega (arith, c.before.before.put-text4.ensures.end))
+returns-4 c = (puts_by (λ (x : Program). name_of x ++ ascii ": ") c.before.before.before.before.before.enum-told4.given.1 c.before.before.put-text4.ensures, omega (arith, c.before.before.put-text4.ensures.end))
 
 -- src/remarks.rt:18:1
 same-length-5 : tie.Need-same-length-5
@@ -110,7 +110,7 @@ same-length-5 c = search rules
 
 -- src/remarks.rt:18:1
 returns-5 : tie.Need-returns-5
-returns-5 c = (puts-by (λ (x : Program). name_of x ++ ascii ": ") c.before.before.before.before.before.enum-told5.given.1 c.before.before.put-text5.ensures, omega (arith, c.before.before.put-text5.ensures.end))
+returns-5 c = (puts_by (λ (x : Program). name_of x ++ ascii ": ") c.before.before.before.before.before.enum-told5.given.1 c.before.before.put-text5.ensures, omega (arith, c.before.before.put-text5.ensures.end))
 
 pub put-name-spec : {M : Type 1} → statement M
 put-name-spec =

@@ -1,6 +1,6 @@
 -- `lines::remarks::put_number` meets its contract: two texts.
 use native.Mathlib.Omega.{arith}
-use Rattle.lines.proofs.Putting.{puts-both}
+use Rattle.lines.proofs.Putting.{puts_both}
 use borrow.Author.Rules.{rules}
 use Rattle.lines.proofs.remarks.put_number.Statement.{statement}
 use Rattle.lines.proofs.remarks.put_number.Tie as tie
@@ -23,7 +23,7 @@ same_length c = search rules
 
 -- src/remarks.rt:30:1
 returns : tie.Need-returns
-returns c = (puts-both c.before.before.before.before.before.before.put-text.ensures c.before.before.put-decimal.ensures.0, omega (arith, c.before.before.before.before.before.before.put-text.ensures.end, c.before.before.put-decimal.ensures.1))
+returns c = (puts_both c.before.before.before.before.before.before.put-text.ensures c.before.before.put-decimal.ensures.0, omega (arith, c.before.before.before.before.before.before.put-text.ensures.end, c.before.before.put-decimal.ensures.1))
 
 pub put-number-spec : {M : Type 1} → statement M
 put-number-spec = tie.close (tie.spec put-text-requires put-decimal-requires same_length returns)

@@ -1,6 +1,6 @@
 -- `lines::remarks::put_refusal` meets its contract: the number, and the reason.
 use native.Mathlib.Omega.{arith}
-use Rattle.lines.proofs.Putting.{puts-both}
+use Rattle.lines.proofs.Putting.{puts_both}
 use borrow.Author.Rules.{rules}
 use Rattle.lines.proofs.remarks.put_refusal.Statement.{statement}
 use Rattle.lines.proofs.remarks.put_refusal.Tie as tie
@@ -27,7 +27,7 @@ same_length c = search rules
 
 -- src/remarks.rt:105:1
 returns : tie.Need-returns
-returns c = (puts-both c.before.before.before.before.before.before.put-number.ensures.0 c.before.before.put-reason.ensures.0, omega (arith, c.before.before.before.before.before.before.put-number.ensures.1, c.before.before.put-reason.ensures.1))
+returns c = (puts_both c.before.before.before.before.before.before.put-number.ensures.0 c.before.before.put-reason.ensures.0, omega (arith, c.before.before.before.before.before.before.put-number.ensures.1, c.before.before.put-reason.ensures.1))
 
 pub put-refusal-spec : {M : Type 1} → statement M
 put-refusal-spec =

@@ -1,7 +1,7 @@
 -- `lines::remarks::put_remark` meets its contract: one text an arm.
 use native.Mathlib.Omega.{arith}
-use Rattle.lines.proofs.Putting.{puts-by}
-use Rattle.lines.specs.Remarks.{remarkText}
+use Rattle.lines.proofs.Putting.{puts_by}
+use Rattle.lines.specs.Remarks.{remark_text}
 use borrow.Author.Rules.{rules}
 use Rattle.lines.proofs.remarks.put_remark.Statement.{statement}
 use Rattle.lines.proofs.remarks.put_remark.Tie as tie
@@ -110,8 +110,8 @@ same_length c = search rules
 
 -- src/remarks.rt:113:1
 returns : tie.Need-returns
-unfolding remarkText
-returns c = (puts-by remarkText c.before.before.before.before.before.enum_told.given.1 c.before.before.put-text.ensures, omega (arith, c.before.before.put-text.ensures.end))
+unfolding remark_text
+returns c = (puts_by remark_text c.before.before.before.before.before.enum_told.given.1 c.before.before.put-text.ensures, omega (arith, c.before.before.put-text.ensures.end))
 
 -- src/remarks.rt:113:1
 same-length-2 : tie.Need-same-length-2
@@ -119,8 +119,8 @@ same-length-2 c = search rules
 
 -- src/remarks.rt:113:1
 returns-2 : tie.Need-returns-2
-unfolding remarkText
-returns-2 c = (puts-by remarkText c.before.before.before.before.before.enum-told2.given.1 c.before.before.put-text2.ensures, omega (arith, c.before.before.put-text2.ensures.end))
+unfolding remark_text
+returns-2 c = (puts_by remark_text c.before.before.before.before.before.enum-told2.given.1 c.before.before.put-text2.ensures, omega (arith, c.before.before.put-text2.ensures.end))
 
 -- src/remarks.rt:113:1
 same-length-3 : tie.Need-same-length-3
@@ -128,8 +128,8 @@ same-length-3 c = search rules
 
 -- src/remarks.rt:113:1
 returns-3 : tie.Need-returns-3
-unfolding remarkText
-returns-3 c = (puts-by remarkText c.before.before.before.before.before.before.remark.given.1 c.before.before.put-hex.ensures.0, omega (arith, c.before.before.put-hex.ensures.1))
+unfolding remark_text
+returns-3 c = (puts_by remark_text c.before.before.before.before.before.before.remark.given.1 c.before.before.put-hex.ensures.0, omega (arith, c.before.before.put-hex.ensures.1))
 
 -- src/remarks.rt:113:1
 same-length-4 : tie.Need-same-length-4
@@ -137,8 +137,8 @@ same-length-4 c = search rules
 
 -- src/remarks.rt:113:1
 returns-4 : tie.Need-returns-4
-unfolding remarkText
-returns-4 c = (puts-by remarkText c.before.before.before.before.before.enum-told3.given.1 c.before.before.put-text3.ensures, omega (arith, c.before.before.put-text3.ensures.end))
+unfolding remark_text
+returns-4 c = (puts_by remark_text c.before.before.before.before.before.enum-told3.given.1 c.before.before.put-text3.ensures, omega (arith, c.before.before.put-text3.ensures.end))
 
 -- src/remarks.rt:113:1
 same-length-5 : tie.Need-same-length-5
@@ -146,8 +146,8 @@ same-length-5 c = search rules
 
 -- src/remarks.rt:113:1
 returns-5 : tie.Need-returns-5
-unfolding remarkText
-returns-5 c = (puts-by remarkText c.before.before.before.before.before.before.remark2.given.1 c.before.before.put-number.ensures.0, omega (arith, c.before.before.put-number.ensures.1))
+unfolding remark_text
+returns-5 c = (puts_by remark_text c.before.before.before.before.before.before.remark2.given.1 c.before.before.put-number.ensures.0, omega (arith, c.before.before.put-number.ensures.1))
 
 -- src/remarks.rt:113:1
 same-length-6 : tie.Need-same-length-6
@@ -155,8 +155,8 @@ same-length-6 c = search rules
 
 -- src/remarks.rt:113:1
 returns-6 : tie.Need-returns-6
-unfolding remarkText
-returns-6 c = (puts-by remarkText c.before.before.before.before.before.remark3.given.1 c.before.before.put-refusal.ensures.0, c.before.before.put-refusal.ensures.1)
+unfolding remark_text
+returns-6 c = (puts_by remark_text c.before.before.before.before.before.remark3.given.1 c.before.before.put-refusal.ensures.0, c.before.before.put-refusal.ensures.1)
 
 -- src/remarks.rt:113:1
 same-length-7 : tie.Need-same-length-7
@@ -164,8 +164,8 @@ same-length-7 c = search rules
 
 -- src/remarks.rt:113:1
 returns-7 : tie.Need-returns-7
-unfolding remarkText
-returns-7 c = (puts-by remarkText c.before.before.before.before.before.before.remark4.given.1 c.before.before.put-number2.ensures.0, omega (arith, c.before.before.put-number2.ensures.1))
+unfolding remark_text
+returns-7 c = (puts_by remark_text c.before.before.before.before.before.before.remark4.given.1 c.before.before.put-number2.ensures.0, omega (arith, c.before.before.put-number2.ensures.1))
 
 -- src/remarks.rt:113:1
 same-length-8 : tie.Need-same-length-8
@@ -173,8 +173,8 @@ same-length-8 c = search rules
 
 -- src/remarks.rt:113:1
 returns-8 : tie.Need-returns-8
-unfolding remarkText
-returns-8 c = (puts-by remarkText c.before.before.before.before.before.enum-told4.given.1 c.before.before.put-text4.ensures, omega (arith, c.before.before.put-text4.ensures.end))
+unfolding remark_text
+returns-8 c = (puts_by remark_text c.before.before.before.before.before.enum-told4.given.1 c.before.before.put-text4.ensures, omega (arith, c.before.before.put-text4.ensures.end))
 
 pub put-remark-spec : {M : Type 1} → statement M
 put-remark-spec =

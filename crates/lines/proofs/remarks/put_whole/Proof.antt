@@ -1,6 +1,6 @@
 -- `lines::remarks::put_whole` meets its contract: two texts.
 use native.Mathlib.Omega.{arith}
-use Rattle.lines.proofs.Putting.{puts-both}
+use Rattle.lines.proofs.Putting.{puts_both}
 use borrow.Author.Rules.{rules}
 use Rattle.lines.proofs.remarks.put_whole.Statement.{statement}
 use Rattle.lines.proofs.remarks.put_whole.Tie as tie
@@ -26,7 +26,7 @@ same_length c = search rules
 
 -- src/remarks.rt:48:1
 returns : tie.Need-returns
-returns c = (puts-both c.before.before.before.before.before.before.put-text.ensures c.before.before.put-text2.ensures, omega (arith, c.before.before.before.before.before.before.put-text.ensures.end, c.before.before.put-text2.ensures.end))
+returns c = (puts_both c.before.before.before.before.before.before.put-text.ensures c.before.before.put-text2.ensures, omega (arith, c.before.before.before.before.before.before.put-text.ensures.end, c.before.before.put-text2.ensures.end))
 
 pub put-whole-spec : {M : Type 1} → statement M
 put-whole-spec =

@@ -1,8 +1,8 @@
 -- `lines::remarks::remark_line` meets its contract: two texts, handed over.
 use native.Mathlib.Omega.{arith}
 use lib.ListN.{length-take}
-use Rattle.lines.specs.Remarks.{remarkLine}
-use Rattle.lines.proofs.Putting.{puts-both, line_made}
+use Rattle.lines.specs.Remarks.{remark_line}
+use Rattle.lines.proofs.Putting.{puts_both, line_made}
 use borrow.Author.Rules.{rules}
 use Rattle.lines.proofs.remarks.remark_line.Statement.{statement}
 use Rattle.lines.proofs.remarks.remark_line.Tie as tie
@@ -46,8 +46,8 @@ same_length c = search rules
 
 -- src/remarks.rt:128:1
 returns : tie.Need-returns
-unfolding remarkLine
-returns c = line_made (puts-both c.before.before.before.before.before.before.before.before.before.put-name.ensures.0 c.before.before.before.before.before.before.put-remark.ensures.0) c.before.before.hand-over.ensures
+unfolding remark_line
+returns c = line_made (puts_both c.before.before.before.before.before.before.before.before.before.put-name.ensures.0 c.before.before.before.before.before.before.put-remark.ensures.0) c.before.before.hand_over.ensures
 
 pub remark-line-spec : {M : Type 1} → statement M
 remark-line-spec =

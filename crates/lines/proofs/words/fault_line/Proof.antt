@@ -4,8 +4,8 @@ use lib.ListN.{length-take}
 use borrow.Author.Rules.{rules}
 use Rattle.lines.proofs.words.fault_line.Statement.{statement}
 use Rattle.lines.proofs.words.fault_line.Tie as tie
-use Rattle.lines.specs.Words.{faultLine}
-use Rattle.lines.proofs.Putting.{puts-both, line_made}
+use Rattle.lines.specs.Words.{fault_line}
+use Rattle.lines.proofs.Putting.{puts_both, line_made}
 
 slice-aggregate-put-text : tie.Need-slice-aggregate-put-text
 slice-aggregate-put-text c = search rules
@@ -65,8 +65,8 @@ same_length : tie.Need-same-length
 same_length c = search rules
 
 returns : tie.Need-returns
-unfolding faultLine
-returns c = line_made (puts-both c.before.before.before.before.before.before.before.before.before.before.before.before.before.before.before.before.before.before.before.before.before.before.before.put-text.ensures (puts-both c.before.before.before.before.before.before.before.before.before.before.before.before.before.before.before.before.before.before.before.before.put-decimal.ensures.0 (puts-both c.before.before.before.before.before.before.before.before.before.before.before.before.before.before.before.before.put-text2.ensures (puts-both c.before.before.before.before.before.before.before.before.before.before.before.before.before.put-decimal2.ensures.0 (puts-both c.before.before.before.before.before.before.before.before.before.put-text3.ensures c.before.before.before.before.before.before.put-expected.ensures.0))))) c.before.before.hand-over.ensures
+unfolding fault_line
+returns c = line_made (puts_both c.before.before.before.before.before.before.before.before.before.before.before.before.before.before.before.before.before.before.before.before.before.before.before.put-text.ensures (puts_both c.before.before.before.before.before.before.before.before.before.before.before.before.before.before.before.before.before.before.before.before.put-decimal.ensures.0 (puts_both c.before.before.before.before.before.before.before.before.before.before.before.before.before.before.before.before.put-text2.ensures (puts_both c.before.before.before.before.before.before.before.before.before.before.before.before.before.put-decimal2.ensures.0 (puts_both c.before.before.before.before.before.before.before.before.before.put-text3.ensures c.before.before.before.before.before.before.put-expected.ensures.0))))) c.before.before.hand_over.ensures
 
 pub fault-line-spec : {M : Type 1} → statement M
 fault-line-spec =

@@ -6,7 +6,7 @@ use Rattle.lines.proofs.words.put_expected.Statement.{statement}
 use Rattle.lines.proofs.words.put_expected.Tie as tie
 use Rattle.text.specs.declared.Expected.{Expected}
 use Rattle.lines.specs.Putting.{Puts}
-use Rattle.lines.specs.Words.{expectedText}
+use Rattle.lines.specs.Words.{expected_text}
 
 enum_told : tie.Need-enum-told
 enum_told c = search rules
@@ -48,25 +48,25 @@ same_length : tie.Need-same-length
 same_length c = search rules
 
 returns : tie.Need-returns
-returns c = (subst (λ (e : Expected). Puts (expectedText e) c.before.before.before.before.before.before.before.before.args.at c.before.before.put-text.result c.before.before.before.before.before.before.before.before.args.line.now c.before.before.put-text.new.1.1.0) (sym c.before.before.before.before.before.enum_told.given.1) c.before.before.put-text.ensures, omega (arith, c.before.before.put-text.ensures.end))
+returns c = (subst (λ (e : Expected). Puts (expected_text e) c.before.before.before.before.before.before.before.before.args.at c.before.before.put-text.result c.before.before.before.before.before.before.before.before.args.line.now c.before.before.put-text.new.1.1.0) (sym c.before.before.before.before.before.enum_told.given.1) c.before.before.put-text.ensures, omega (arith, c.before.before.put-text.ensures.end))
 
 same-length-2 : tie.Need-same-length-2
 same-length-2 c = search rules
 
 returns-2 : tie.Need-returns-2
-returns-2 c = (subst (λ (e : Expected). Puts (expectedText e) c.before.before.before.before.before.before.before.before.args.at c.before.before.put-text2.result c.before.before.before.before.before.before.before.before.args.line.now c.before.before.put-text2.new.1.1.0) (sym c.before.before.before.before.before.enum-told2.given.1) c.before.before.put-text2.ensures, omega (arith, c.before.before.put-text2.ensures.end))
+returns-2 c = (subst (λ (e : Expected). Puts (expected_text e) c.before.before.before.before.before.before.before.before.args.at c.before.before.put-text2.result c.before.before.before.before.before.before.before.before.args.line.now c.before.before.put-text2.new.1.1.0) (sym c.before.before.before.before.before.enum-told2.given.1) c.before.before.put-text2.ensures, omega (arith, c.before.before.put-text2.ensures.end))
 
 same-length-3 : tie.Need-same-length-3
 same-length-3 c = search rules
 
 returns-3 : tie.Need-returns-3
-returns-3 c = (subst (λ (e : Expected). Puts (expectedText e) c.before.before.before.before.before.before.before.before.args.at c.before.before.put-text3.result c.before.before.before.before.before.before.before.before.args.line.now c.before.before.put-text3.new.1.1.0) (sym c.before.before.before.before.before.enum-told3.given.1) c.before.before.put-text3.ensures, omega (arith, c.before.before.put-text3.ensures.end))
+returns-3 c = (subst (λ (e : Expected). Puts (expected_text e) c.before.before.before.before.before.before.before.before.args.at c.before.before.put-text3.result c.before.before.before.before.before.before.before.before.args.line.now c.before.before.put-text3.new.1.1.0) (sym c.before.before.before.before.before.enum-told3.given.1) c.before.before.put-text3.ensures, omega (arith, c.before.before.put-text3.ensures.end))
 
 same-length-4 : tie.Need-same-length-4
 same-length-4 c = search rules
 
 returns-4 : tie.Need-returns-4
-returns-4 c = (subst (λ (e : Expected). Puts (expectedText e) c.before.before.before.before.before.before.before.before.args.at c.before.before.put-text4.result c.before.before.before.before.before.before.before.before.args.line.now c.before.before.put-text4.new.1.1.0) (sym c.before.before.before.before.before.enum-told4.given.1) c.before.before.put-text4.ensures, omega (arith, c.before.before.put-text4.ensures.end))
+returns-4 c = (subst (λ (e : Expected). Puts (expected_text e) c.before.before.before.before.before.before.before.before.args.at c.before.before.put-text4.result c.before.before.before.before.before.before.before.before.args.line.now c.before.before.put-text4.new.1.1.0) (sym c.before.before.before.before.before.enum-told4.given.1) c.before.before.put-text4.ensures, omega (arith, c.before.before.put-text4.ensures.end))
 
 pub put-expected-spec : {M : Type 1} → statement M
 put-expected-spec =

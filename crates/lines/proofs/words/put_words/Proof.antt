@@ -6,7 +6,7 @@ use lib.ListN.{length}
 use borrow.Author.Rules.{rules}
 use Rattle.lines.proofs.words.put_words.Statement.{statement}
 use Rattle.lines.proofs.words.put_words.Tie as tie
-use Rattle.lines.proofs.Worded.{Worded, one-more-word, all-worded}
+use Rattle.lines.proofs.Worded.{Worded, one_more_word, all_worded}
 
 abbrev invariant-loop : tie.invariant-loop
 invariant-loop words line₀ at₀ i₀ line at i = Worded words line₀ line at i
@@ -36,13 +36,13 @@ loop-less : tie.Need-loop-smaller invariant-loop decreases-loop
 loop-less c = omega (arith, c.before.before.before.before.before.before.loop-test.true)
 
 loop-again : tie.Need-loop-preserved invariant-loop decreases-loop
-loop-again c = one-more-word c.before.before.before.before.before.before.before.loop.invariant c.before.before.before.before.before.before.loop-test.true refl c.before.before.before.before.after-word.ensures c.before.before.put_word.ensures.0 c.before.before.put_word.ensures.1 (search rules)
+loop-again c = one_more_word c.before.before.before.before.before.before.before.loop.invariant c.before.before.before.before.before.before.loop-test.true refl c.before.before.before.before.after-word.ensures c.before.before.put_word.ensures.0 c.before.before.put_word.ensures.1 (search rules)
 
 same_length : tie.Need-same-length invariant-loop decreases-loop
 same_length c = c.before.loop.invariant.long
 
 returns : tie.Need-returns invariant-loop decreases-loop
-returns c = all-worded c.before.loop.invariant c.loop-test.false c.before.before.before.before.requires
+returns c = all_worded c.before.loop.invariant c.loop-test.false c.before.before.before.before.requires
 
 pub put-words-spec : {M : Type 1} → statement M
 put-words-spec =

@@ -10,13 +10,13 @@ use borrow.Author.Tests.{lt-ltb, le-ltb}
 use Rattle.lines.proofs.words.words_line.Statement.{statement}
 use Rattle.lines.proofs.words.words_line.Tie as tie
 use Rattle.choice.proofs.Picks.{picked, unpicked}
-use Rattle.lines.specs.Words.{wordsText, wordsLine}
-use Rattle.lines.proofs.Answered.{made_all, makes-as}
+use Rattle.lines.specs.Words.{words_text, words_line}
+use Rattle.lines.proofs.Answered.{made_all, makes_as}
 use Rattle.lines.proofs.Putting.{line_made}
 
 returns : tie.Need-returns
-unfolding wordsLine
-returns c = let a = c.before.before.before.args in let none : wordsLine a.words.now a.index ≡ [] = unpicked (ltb a.index (length a.words.now / 3)) (wordsText (take 3 (drop (3 * a.index) a.words.now))) [] (le-ltb a.index (length a.words.now / 3) c.if1.true) in makes-as (sym none) (made_all 0 a.out.now (omega arith) refl refl)
+unfolding words_line
+returns c = let a = c.before.before.before.args in let none : words_line a.words.now a.index ≡ [] = unpicked (ltb a.index (length a.words.now / 3)) (words_text (take 3 (drop (3 * a.index) a.words.now))) [] (le-ltb a.index (length a.words.now / 3) c.if1.true) in makes_as (sym none) (made_all 0 a.out.now (omega arith) refl refl)
 
 mul-from : tie.Need-overflow-mul-from
 mul-from c = search rules
@@ -55,8 +55,8 @@ same_length : tie.Need-same-length
 same_length c = search rules
 
 returns-2 : tie.Need-returns-2
-unfolding wordsLine
-returns-2 c = let a = c.before.before.before.before.before.before.before.before.before.before.before.before.args in let line : wordsLine a.words.now a.index ≡ wordsText (take 3 (drop (3 * a.index) a.words.now)) = picked (ltb a.index (length a.words.now / 3)) (wordsText (take 3 (drop (3 * a.index) a.words.now))) [] (lt-ltb a.index (length a.words.now / 3) c.before.before.before.before.before.before.before.before.before.if1.false) in let three : 3 * a.index + 3 - 3 * a.index ≡ 3 = omega arith in makes-as (sym line) (line_made (rw three at c.before.before.before.before.before.before.put-words.ensures.0) c.before.before.hand-over.ensures)
+unfolding words_line
+returns-2 c = let a = c.before.before.before.before.before.before.before.before.before.before.before.before.args in let line : words_line a.words.now a.index ≡ words_text (take 3 (drop (3 * a.index) a.words.now)) = picked (ltb a.index (length a.words.now / 3)) (words_text (take 3 (drop (3 * a.index) a.words.now))) [] (lt-ltb a.index (length a.words.now / 3) c.before.before.before.before.before.before.before.before.before.if1.false) in let three : 3 * a.index + 3 - 3 * a.index ≡ 3 = omega arith in makes_as (sym line) (line_made (rw three at c.before.before.before.before.before.before.put-words.ensures.0) c.before.before.hand_over.ensures)
 
 pub words-line-spec : {M : Type 1} → statement M
 words-line-spec =

@@ -3,7 +3,7 @@ use borrow.Author.Tests.{ltb-true, ltb-false}
 use borrow.Author.Rules.{rules}
 use Rattle.listing.proofs.Finds.{find-here, find-next, find-end}
 use Rattle.listing.specs.Entries.{spanned}
-use Rattle.listing.specs.Keys.{valueBy}
+use Rattle.listing.specs.Keys.{value_by}
 use native.Mathlib.Omega.{arith}
 use lib.ListN.{drop}
 use mathlib.Core.Path.{◌≡◌}
@@ -16,7 +16,7 @@ use Rattle.listing.proofs.finding.find.Lts as lts
 use Rattle.listing.proofs.names.entry.Reads as entry-reads
 
 abbrev invariant-loop : tie.invariant-loop
-invariant-loop place key first count i₀ i = (i ≤ place % 64) × (valueBy (drop i (spanned place)) key ≡ valueBy (spanned place) key)
+invariant-loop place key first count i₀ i = (i ≤ place % 64) × (value_by (drop i (spanned place)) key ≡ value_by (spanned place) key)
 
 abbrev decreases-loop : tie.decreases-loop
 decreases-loop place key first count i₀ i = place % 64 - i

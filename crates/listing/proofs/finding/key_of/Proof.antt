@@ -3,7 +3,7 @@ use borrow.Author.Tests.{ltb-true, ltb-false}
 use borrow.Author.Rules.{rules}
 use Rattle.listing.proofs.Finds.{key-found, key-next, key-end}
 use Rattle.listing.specs.Entries.{spanned}
-use Rattle.listing.specs.Keys.{keyIn}
+use Rattle.listing.specs.Keys.{key_in}
 use native.Mathlib.Omega.{arith}
 use lib.ListN.{drop}
 use mathlib.Core.Path.{◌≡◌}
@@ -16,7 +16,7 @@ use Rattle.listing.proofs.finding.key_of.Lts as lts
 use Rattle.listing.proofs.names.entry.Reads as entry-reads
 
 abbrev invariant-loop : tie.invariant-loop
-invariant-loop place value first count i₀ i = (i ≤ place % 64) × (keyIn (drop i (spanned place)) value ≡ keyIn (spanned place) value)
+invariant-loop place value first count i₀ i = (i ≤ place % 64) × (key_in (drop i (spanned place)) value ≡ key_in (spanned place) value)
 
 abbrev decreases-loop : tie.decreases-loop
 decreases-loop place value first count i₀ i = place % 64 - i

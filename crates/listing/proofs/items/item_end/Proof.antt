@@ -3,7 +3,7 @@ use Prim.Native.Nat.{◌-◌}
 use lib.ListN.{length}
 use native.Mathlib.Omega.{arith}
 use borrow.Author.Tests.{eq-eqb, ne_eqb}
-use Rattle.listing.proofs.Walks.{Within, within-start, within-turn, within-blank, within_end}
+use Rattle.listing.proofs.Walks.{Within, within_start, within-turn, within-blank, within_end}
 use Rattle.listing.proofs.items.item_end.Statement.{statement}
 use Rattle.listing.proofs.items.item_end.Tie as tie
 use Rattle.listing.proofs.items.item_end.Reads as reads
@@ -17,7 +17,7 @@ decreases-loop line at i₀ i = length line - i
 
 -- src/reading.rt:44:5
 loop-holds : tie.Need-loop-init invariant-loop decreases-loop
-loop-holds c = within-start c.args.line.now c.args.at c.requires
+loop-holds c = within_start c.args.line.now c.args.at c.requires
 
 -- src/reading.rt:45:12
 shared-slice-read-if1 : tie.Need-shared-slice-read-if1 invariant-loop decreases-loop

@@ -4,7 +4,7 @@ use Prim.Native.Nat.{◌-◌, ◌≤◌}
 use lib.ListN.{length}
 use native.Mathlib.Omega.{arith}
 use borrow.Author.Tests.{eq-eqb, ne_eqb}
-use Rattle.listing.specs.Reading.{itemsAt}
+use Rattle.listing.specs.Reading.{items_at}
 use Rattle.listing.proofs.Walks.{blank_turn}
 use Rattle.listing.proofs.items.item_start.Statement.{statement}
 use Rattle.listing.proofs.items.item_start.Tie as tie
@@ -12,7 +12,7 @@ use Rattle.listing.proofs.items.item_start.Reads as reads
 use Rattle.listing.proofs.items.item_start.Lts as lts
 
 abbrev invariant-loop : tie.invariant-loop
-invariant-loop line at i₀ i = (i ≤ length line) × (itemsAt line at ≡ itemsAt line i)
+invariant-loop line at i₀ i = (i ≤ length line) × (items_at line at ≡ items_at line i)
 
 abbrev decreases-loop : tie.decreases-loop
 decreases-loop line at i₀ i = length line - i

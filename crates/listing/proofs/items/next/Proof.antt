@@ -1,5 +1,5 @@
 -- `listing::items::next` meets its contract.
-use Rattle.listing.proofs.Walks.{next-found, next-none}
+use Rattle.listing.proofs.Walks.{next_found, next_none}
 use borrow.Author.Rules.{rules}
 use Rattle.listing.proofs.items.next.Statement.{statement}
 use Rattle.listing.proofs.items.next.Tie as tie
@@ -31,11 +31,11 @@ add-t10 c = search rules
 
 -- src/reading.rt:82:1
 returns : tie.Need-returns
-returns c = next-found c.before.before.before.before.before.args.line.now c.before.before.before.before.before.args.at c.before.before.before.item-start.result c.before.item-end.result c.key-of-bytes.result c.before.before.before.item-start.ensures c.before.before.if1.true c.before.item-end.ensures c.key-of-bytes.ensures
+returns c = next_found c.before.before.before.before.before.args.line.now c.before.before.before.before.before.args.at c.before.before.before.item-start.result c.before.item-end.result c.key-of-bytes.result c.before.before.before.item-start.ensures c.before.before.if1.true c.before.item-end.ensures c.key-of-bytes.ensures
 
 -- src/reading.rt:82:1
 returns-2 : tie.Need-returns-2
-returns-2 c = next-none c.before.before.before.args.line.now c.before.before.before.args.at c.before.item-start.result c.before.item-start.ensures c.if1.false
+returns-2 c = next_none c.before.before.before.args.line.now c.before.before.before.args.at c.before.item-start.result c.before.item-start.ensures c.if1.false
 
 pub next-spec : {M : Type 1} → statement M
 next-spec =

@@ -2,10 +2,10 @@
 use native.Mathlib.Omega.{arith}
 use borrow.Author.Tests.{eq-eqb, ne_eqb, lt-ltb, le-ltb}
 use borrow.Author.Rules.{rules}
-use Rattle.listing.proofs.items.one_more.Statement.{statement}
-use Rattle.listing.proofs.items.one_more.Tie as tie
-use Rattle.listing.proofs.items.one_more.Reads as reads
-use Rattle.listing.proofs.items.one_more.Lts as lts
+use Rattle.listing.proofs.items.one_more_lem.Statement.{statement}
+use Rattle.listing.proofs.items.one_more_lem.Tie as tie
+use Rattle.listing.proofs.items.one_more_lem.Reads as reads
+use Rattle.listing.proofs.items.one_more_lem.Lts as lts
 
 -- src/reading.rt:58:9
 returns : tie.Need-returns

@@ -1,6 +1,6 @@
 -- `listing::reading::expect` meets its contract.
 use Rattle.listing.proofs.Finds.{step_value, step-none}
-use Rattle.listing.specs.Keys.{foundTells}
+use Rattle.listing.specs.Keys.{found_tells}
 use mathlib.Core.Path.{sym, ap, ◌∙◌}
 use borrow.Author.Rules.{rules}
 use Rattle.listing.proofs.reading.expect.Statement.{statement}
@@ -33,11 +33,11 @@ refusal-of-requires c κs = search rules
 
 -- src/reading.rt:15:1
 returns : tie.Need-returns
-returns c = step_value c.before.before.before.before.before.before.args.line.now c.before.before.before.before.before.before.args.at c.before.before.before.before.before.before.args.place c.before.before.before.before.next.result c.before.before.before.before.next.ensures c.before.v.given.0.0 (ap foundTells (sym c.before.v.given.1) ∙ c.before.before.before.find.ensures)
+returns c = step_value c.before.before.before.before.before.before.args.line.now c.before.before.before.before.before.before.args.at c.before.before.before.before.before.before.args.place c.before.before.before.before.next.result c.before.before.before.before.next.ensures c.before.v.given.0.0 (ap found_tells (sym c.before.v.given.1) ∙ c.before.before.before.find.ensures)
 
 -- src/reading.rt:15:1
 returns-2 : tie.Need-returns-2
-returns-2 c = step-none c.before.before.before.before.before.before.args.line.now c.before.before.before.before.before.before.args.at c.before.before.before.before.before.before.args.place c.before.before.before.before.next.result c.before.before.before.before.next.ensures c.refusal-of.result (ap foundTells (sym c.before.enum_told.given.1) ∙ c.before.before.before.find.ensures) c.refusal-of.ensures
+returns-2 c = step-none c.before.before.before.before.before.before.args.line.now c.before.before.before.before.before.before.args.at c.before.before.before.before.before.before.args.place c.before.before.before.before.next.result c.before.before.before.before.next.ensures c.refusal-of.result (ap found_tells (sym c.before.enum_told.given.1) ∙ c.before.before.before.find.ensures) c.refusal-of.ensures
 
 pub expect-spec : {M : Type 1} → statement M
 expect-spec =

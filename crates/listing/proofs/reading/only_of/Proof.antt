@@ -1,5 +1,5 @@
 -- `listing::reading::only_of` meets its contract.
-use Rattle.listing.proofs.Finds.{lowest-here, lowest-next, lowest-none}
+use Rattle.listing.proofs.Finds.{lowest_here, lowest_next, lowest_none}
 use Rattle.listing.specs.Lines.{lowest}
 use Prim.Native.Nat.{ℕ}
 use borrow.Author.Tests.{eq-eqb, ne_eqb}
@@ -31,7 +31,7 @@ cast-result c = omega arith
 
 -- src/reading.rt:33:13
 returns : tie.Need-returns invariant-loop decreases-loop
-returns c = lowest-here (32 - c.before.before.loop.v) c.before.before.loop.v c.before.before.before.args.set (omega arith) (eq-eqb _ _ c.if1.true) ∙ c.before.before.loop.invariant.1
+returns c = lowest_here (32 - c.before.before.loop.v) c.before.before.loop.v c.before.before.before.args.set (omega arith) (eq-eqb _ _ c.if1.true) ∙ c.before.before.loop.invariant.1
 
 -- src/reading.rt:35:9
 add-v : tie.Need-overflow-add-v invariant-loop decreases-loop
@@ -43,11 +43,11 @@ loop-less c = omega arith
 
 -- src/reading.rt:31:5
 loop-again : tie.Need-loop-preserved invariant-loop decreases-loop
-loop-again c = let m : 32 - (c.before.before.loop.v + 1) ≡ 32 - c.before.before.loop.v - 1 = omega arith in (omega arith, ap (λ (n : ℕ). lowest n (c.before.before.loop.v + 1) c.before.before.before.args.set) m ∙ lowest-next (32 - c.before.before.loop.v) c.before.before.loop.v c.before.before.before.args.set (omega arith) (ne_eqb _ _ c.if1.false) ∙ c.before.before.loop.invariant.1)
+loop-again c = let m : 32 - (c.before.before.loop.v + 1) ≡ 32 - c.before.before.loop.v - 1 = omega arith in (omega arith, ap (λ (n : ℕ). lowest n (c.before.before.loop.v + 1) c.before.before.before.args.set) m ∙ lowest_next (32 - c.before.before.loop.v) c.before.before.loop.v c.before.before.before.args.set (omega arith) (ne_eqb _ _ c.if1.false) ∙ c.before.before.loop.invariant.1)
 
 -- src/reading.rt:27:1
 returns-2 : tie.Need-returns-2 invariant-loop decreases-loop
-returns-2 c = lowest-none (32 - c.before.loop.v) c.before.loop.v c.before.before.args.set (omega arith) ∙ c.before.loop.invariant.1
+returns-2 c = lowest_none (32 - c.before.loop.v) c.before.loop.v c.before.before.args.set (omega arith) ∙ c.before.loop.invariant.1
 
 pub only-of-spec : {M : Type 1} → statement M
 only-of-spec =

@@ -1,6 +1,6 @@
 -- `listing::writing::line_size` meets its contract.
 use native.Mathlib.Omega.{arith}
-use Rattle.listing.proofs.Bytes.{text-short, after-short, line-long}
+use Rattle.listing.proofs.Bytes.{text_short, after_short, line_long}
 use borrow.Author.Rules.{rules}
 use Rattle.listing.proofs.writing.line_size.Statement.{statement}
 use Rattle.listing.proofs.writing.line_size.Tie as tie
@@ -19,7 +19,7 @@ size-after-requires c κs = search rules
 
 -- src/lib.rt:109:5
 add-result : tie.Need-overflow-add-result
-add-result c = omega (arith, c.before.size.ensures, text-short c.before.before.args.keys.family, c.size-after.ensures, after-short c.before.before.args.keys.mode)
+add-result c = omega (arith, c.before.size.ensures, text_short c.before.before.args.keys.family, c.size-after.ensures, after_short c.before.before.args.keys.mode)
 
 -- src/lib.rt:109:67
 size-after-requires-2 : tie.Need-size-after-requires-2
@@ -27,7 +27,7 @@ size-after-requires-2 c κs = search rules
 
 -- src/lib.rt:109:5
 add-result-2 : tie.Need-overflow-add-result-2
-add-result-2 c = omega (arith, c.before.before.size.ensures, text-short c.before.before.before.args.keys.family, c.before.size-after.ensures, after-short c.before.before.before.args.keys.mode, c.size-after2.ensures, after-short c.before.before.before.args.keys.a)
+add-result-2 c = omega (arith, c.before.before.size.ensures, text_short c.before.before.before.args.keys.family, c.before.size-after.ensures, after_short c.before.before.before.args.keys.mode, c.size-after2.ensures, after_short c.before.before.before.args.keys.a)
 
 -- src/lib.rt:109:97
 size-after-requires-3 : tie.Need-size-after-requires-3
@@ -35,7 +35,7 @@ size-after-requires-3 c κs = search rules
 
 -- src/lib.rt:109:5
 add-result-3 : tie.Need-overflow-add-result-3
-add-result-3 c = omega (arith, c.before.before.before.size.ensures, text-short c.before.before.before.before.args.keys.family, c.before.before.size-after.ensures, after-short c.before.before.before.before.args.keys.mode, c.before.size-after2.ensures, after-short c.before.before.before.before.args.keys.a, c.size-after3.ensures, after-short c.before.before.before.before.args.keys.b)
+add-result-3 c = omega (arith, c.before.before.before.size.ensures, text_short c.before.before.before.before.args.keys.family, c.before.before.size-after.ensures, after_short c.before.before.before.before.args.keys.mode, c.before.size-after2.ensures, after_short c.before.before.before.before.args.keys.a, c.size-after3.ensures, after_short c.before.before.before.before.args.keys.b)
 
 -- src/lib.rt:109:127
 size-after-requires-4 : tie.Need-size-after-requires-4
@@ -43,11 +43,11 @@ size-after-requires-4 c κs = search rules
 
 -- src/lib.rt:109:5
 add-result-4 : tie.Need-overflow-add-result-4
-add-result-4 c = omega (arith, c.before.before.before.before.size.ensures, text-short c.before.before.before.before.before.args.keys.family, c.before.before.before.size-after.ensures, after-short c.before.before.before.before.before.args.keys.mode, c.before.before.size-after2.ensures, after-short c.before.before.before.before.before.args.keys.a, c.before.size-after3.ensures, after-short c.before.before.before.before.before.args.keys.b, c.size-after4.ensures, after-short c.before.before.before.before.before.args.keys.c)
+add-result-4 c = omega (arith, c.before.before.before.before.size.ensures, text_short c.before.before.before.before.before.args.keys.family, c.before.before.before.size-after.ensures, after_short c.before.before.before.before.before.args.keys.mode, c.before.before.size-after2.ensures, after_short c.before.before.before.before.before.args.keys.a, c.before.size-after3.ensures, after_short c.before.before.before.before.before.args.keys.b, c.size-after4.ensures, after_short c.before.before.before.before.before.args.keys.c)
 
 -- src/lib.rt:106:1
 returns : tie.Need-returns
-returns c = rw (line-long c.before.before.before.before.before.args.keys) (omega (arith, c.before.before.before.before.size.ensures, text-short c.before.before.before.before.before.args.keys.family, c.before.before.before.size-after.ensures, after-short c.before.before.before.before.before.args.keys.mode, c.before.before.size-after2.ensures, after-short c.before.before.before.before.before.args.keys.a, c.before.size-after3.ensures, after-short c.before.before.before.before.before.args.keys.b, c.size-after4.ensures, after-short c.before.before.before.before.before.args.keys.c))
+returns c = rw (line_long c.before.before.before.before.before.args.keys) (omega (arith, c.before.before.before.before.size.ensures, text_short c.before.before.before.before.before.args.keys.family, c.before.before.before.size-after.ensures, after_short c.before.before.before.before.before.args.keys.mode, c.before.before.size-after2.ensures, after_short c.before.before.before.before.before.args.keys.a, c.before.size-after3.ensures, after_short c.before.before.before.before.before.args.keys.b, c.size-after4.ensures, after_short c.before.before.before.before.before.args.keys.c))
 
 pub line-size-spec : {M : Type 1} → statement M
 line-size-spec =

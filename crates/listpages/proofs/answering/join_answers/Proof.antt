@@ -1,5 +1,5 @@
 -- `listpages::answering::join_answers` meets its contract.
-use Rattle.listpages.proofs.Outs.{Answered, next-reading, answers-begun, answers_at, answers-grown, answers-turn, answers-ended, answers-long}
+use Rattle.listpages.proofs.Outs.{Answered, next_reading, answers-begun, answers_at, answers-grown, answers-turn, answers-ended, answers-long}
 use lib.ListN.{length}
 use Prim.Native.Nat.{◌-◌}
 use borrow.Author.Rules.{rules}
@@ -29,15 +29,15 @@ line-end-requires c κs = omega (arith, c.loop-test.true)
 
 -- src/answering.rt:64:56
 sub-answer-line : tie.Need-overflow-sub-answer-line invariant-loop decreases-loop
-sub-answer-line c = omega (arith, c.line-end.ensures.later)
+sub-answer-line c = omega (arith, c.line_end.ensures.later)
 
 -- src/answering.rt:64:56
 part-answer-line-start : tie.Need-slice-bounds-answer-line-start invariant-loop decreases-loop
-part-answer-line-start c = c.line-end.ensures.later
+part-answer-line-start c = c.line_end.ensures.later
 
 -- src/answering.rt:64:56
 part-answer-line-end : tie.Need-slice-bounds-answer-line-end invariant-loop decreases-loop
-part-answer-line-end c = c.line-end.ensures.bound
+part-answer-line-end c = c.line_end.ensures.bound
 
 -- src/answering.rt:64:75
 sub-answer-line-2 : tie.Need-overflow-sub-answer-line-2 invariant-loop decreases-loop
@@ -61,7 +61,7 @@ bytes-in-requires c κs = search rules
 
 -- src/answering.rt:66:9
 add_at : tie.Need-overflow-add-at invariant-loop decreases-loop
-add_at c = omega (arith, c.bytes-in.ensures, answers-grown c.before.before.before.before.before.before.before.before.before.before.before.args.reading c.before.before.before.before.before.before.before.before.before.before.before.args.bytes.now c.before.before.before.before.before.before.before.before.before.before.before.args.text.now c.before.before.before.before.before.before.before.before.before.before.before.requires c.before.before.before.before.before.before.before.before.loop.text c.before.before.before.before.before.before.before.before.loop.at c.before.before.before.before.before.before.before.before.loop.state c.before.before.before.before.before.before.before.before.loop.from c.before.before.before.before.before.before.before.before.loop.invariant c.before.before.before.before.before.before.line-end.result c.before.before.before.before.before.before.line-end.ensures _ _ c.before.before.before.answer-line.ensures.made)
+add_at c = omega (arith, c.bytes-in.ensures, answers-grown c.before.before.before.before.before.before.before.before.before.before.before.args.reading c.before.before.before.before.before.before.before.before.before.before.before.args.bytes.now c.before.before.before.before.before.before.before.before.before.before.before.args.text.now c.before.before.before.before.before.before.before.before.before.before.before.requires c.before.before.before.before.before.before.before.before.loop.text c.before.before.before.before.before.before.before.before.loop.at c.before.before.before.before.before.before.before.before.loop.state c.before.before.before.before.before.before.before.before.loop.from c.before.before.before.before.before.before.before.before.loop.invariant c.before.before.before.before.before.before.line_end.result c.before.before.before.before.before.before.line_end.ensures _ _ c.before.before.before.answer-line.ensures.made)
 
 -- src/answering.rt:69:22
 count-requires : tie.Need-count-requires invariant-loop decreases-loop
@@ -69,15 +69,15 @@ count-requires c κs = search rules
 
 -- src/answering.rt:71:16
 add-from : tie.Need-overflow-add-from invariant-loop decreases-loop
-add-from c = omega (arith, c.before.before.before.before.before.before.before.line-end.ensures.bound)
+add-from c = omega (arith, c.before.before.before.before.before.before.before.line_end.ensures.bound)
 
 -- src/answering.rt:62:5
 loop-less : tie.Need-loop-smaller invariant-loop decreases-loop
-loop-less c = omega (arith, c.before.before.before.before.before.before.before.line-end.ensures.later, c.before.before.before.before.before.before.before.before.loop-test.true)
+loop-less c = omega (arith, c.before.before.before.before.before.before.before.line_end.ensures.later, c.before.before.before.before.before.before.before.before.loop-test.true)
 
 -- src/answering.rt:62:5
 loop-again : tie.Need-loop-preserved invariant-loop decreases-loop
-loop-again c = rw c.before.bytes-in.ensures (answers-turn c.before.before.before.before.before.before.before.before.before.before.before.before.args.reading c.before.before.before.before.before.before.before.before.before.before.before.before.args.bytes.now c.before.before.before.before.before.before.before.before.before.before.before.before.args.text.now c.before.before.before.before.before.before.before.before.before.before.before.before.requires c.before.before.before.before.before.before.before.before.before.loop.text c.before.before.before.before.before.before.before.before.before.loop.at c.before.before.before.before.before.before.before.before.before.loop.state c.before.before.before.before.before.before.before.before.before.loop.from c.before.before.before.before.before.before.before.before.before.loop.invariant c.before.before.before.before.before.before.before.line-end.result c.before.before.before.before.before.before.before.line-end.ensures _ _ c.before.before.before.before.answer-line.ensures.made _ (next-reading c.before.before.before.before.before.before.before.before.before.loop.state _ _ _ _ _ c.before.before.before.before.answer-line.ensures c.count.ensures))
+loop-again c = rw c.before.bytes-in.ensures (answers-turn c.before.before.before.before.before.before.before.before.before.before.before.before.args.reading c.before.before.before.before.before.before.before.before.before.before.before.before.args.bytes.now c.before.before.before.before.before.before.before.before.before.before.before.before.args.text.now c.before.before.before.before.before.before.before.before.before.before.before.before.requires c.before.before.before.before.before.before.before.before.before.loop.text c.before.before.before.before.before.before.before.before.before.loop.at c.before.before.before.before.before.before.before.before.before.loop.state c.before.before.before.before.before.before.before.before.before.loop.from c.before.before.before.before.before.before.before.before.before.loop.invariant c.before.before.before.before.before.before.before.line_end.result c.before.before.before.before.before.before.before.line_end.ensures _ _ c.before.before.before.before.answer-line.ensures.made _ (next_reading c.before.before.before.before.before.before.before.before.before.loop.state _ _ _ _ _ c.before.before.before.before.answer-line.ensures c.count.ensures))
 
 -- src/answering.rt:55:1
 same_length : tie.Need-same-length invariant-loop decreases-loop

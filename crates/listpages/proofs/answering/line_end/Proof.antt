@@ -1,5 +1,5 @@
 -- `listpages::answering::line_end` meets its contract.
-use Rattle.listpages.proofs.Lined.{Within, within-start, within-turn, ends-feed, ends-bytes}
+use Rattle.listpages.proofs.Lined.{Within, within_start, within-turn, ends-feed, ends-bytes}
 use lib.ListN.{length}
 use Prim.Native.Nat.{◌-◌}
 use borrow.Author.Tests.{eq-eqb, ne_eqb}
@@ -17,7 +17,7 @@ decreases-loop bytes from i₀ i = length bytes - i
 
 -- src/answering.rt:22:5
 loop-holds : tie.Need-loop-init invariant-loop decreases-loop
-loop-holds c = within-start c.args.bytes.now c.args.from (omega (arith, c.requires))
+loop-holds c = within_start c.args.bytes.now c.args.from (omega (arith, c.requires))
 
 -- src/answering.rt:23:12
 shared-slice-read-if1 : tie.Need-shared-slice-read-if1 invariant-loop decreases-loop

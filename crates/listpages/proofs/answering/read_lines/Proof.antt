@@ -45,7 +45,7 @@ same_length c = search rules
 
 -- src/answering.rt:80:1
 returns : tie.Need-returns
-returns c = piece-reads c.before.before.before.before.before.before.before.before.before.before.before.before.before.args.reading c.before.before.before.before.before.before.before.before.before.before.before.before.before.args.bytes.now c.before.before.before.before.before.before.before.before.before.before.piece-end.result c.before.before.before.before.before.before.before.before.before.before.piece-end.ensures c.before.before.before.before.before.before.before.join-answers.result _ _ c.before.before.before.before.before.before.before.join-answers.ensures c.before.before.hand-over.result _ _ c.before.before.hand-over.ensures
+returns c = piece-reads c.before.before.before.before.before.before.before.before.before.before.before.before.before.args.reading c.before.before.before.before.before.before.before.before.before.before.before.before.before.args.bytes.now c.before.before.before.before.before.before.before.before.before.before.piece-end.result c.before.before.before.before.before.before.before.before.before.before.piece-end.ensures c.before.before.before.before.before.before.before.join-answers.result _ _ c.before.before.before.before.before.before.before.join-answers.ensures c.before.before.hand_over.result _ _ c.before.before.hand_over.ensures
 
 pub read-lines-spec : {M : Type 1} → statement M
 read-lines-spec =

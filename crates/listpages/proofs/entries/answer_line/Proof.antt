@@ -1,6 +1,6 @@
 -- `listpages::entries::answer_line` meets its contract.
 use Rattle.listpages.proofs.Outs.{answered-word, answered-refusal}
-use Rattle.lines.specs.Lines.{lastLine}
+use Rattle.lines.specs.Lines.{last_line}
 use borrow.Author.Rules.{rules}
 use Rattle.listpages.proofs.entries.answer_line.Statement.{statement}
 use Rattle.listpages.proofs.entries.answer_line.Tie as tie
@@ -49,7 +49,7 @@ same-length-2 c = search rules
 
 -- src/entries.rt:88:1
 returns-2 : tie.Need-returns-2
-unfolding lastLine
+unfolding last_line
 returns-2 c = answered-refusal c.before.before.before.before.before.before.before.before.before.before.args.waits c.before.before.before.before.before.before.before.before.before.before.args.line.now c.before.before.before.before.before.before.before.read-line.result c.before.before.before.before.before.before.before.read-line.ensures c.before.before.last_line.result _ _ c.before.before.before.before.before.number.given.0.0 c.before.before.before.before.before.number.given.0.1.0 c.before.before.before.before.before.number.given.1 c.before.before.last_line.ensures
 
 pub answer-line-spec : {M : Type 1} → statement M

@@ -1,6 +1,6 @@
 -- `listpages::entries::entry_line` meets its contract.
 use Rattle.listpages.proofs.Entered.{entry-data, entry-word}
-use Rattle.lines.proofs.Answered.{makes-as}
+use Rattle.lines.proofs.Answered.{makes_as}
 use borrow.Author.Rules.{rules}
 use Rattle.listpages.proofs.entries.entry_line.Statement.{statement}
 use Rattle.listpages.proofs.entries.entry_line.Tie as tie
@@ -23,7 +23,7 @@ same_length c = search rules
 
 -- src/entries.rt:55:1
 returns : tie.Need-returns
-returns c = makes-as (entry-data c.before.before.before.before.before.before.args.waits c.before.before.before.before.before.before.args.word c.before.before.before.before.if1.true) c.before.before.hex-line.ensures
+returns c = makes_as (entry-data c.before.before.before.before.before.before.args.waits c.before.before.before.before.before.before.args.word c.before.before.before.before.if1.true) c.before.before.hex-line.ensures
 
 -- src/entries.rt:55:1
 same-length-2 : tie.Need-same-length-2
@@ -31,7 +31,7 @@ same-length-2 c = search rules
 
 -- src/entries.rt:55:1
 returns-2 : tie.Need-returns-2
-returns-2 c = makes-as (entry-word c.before.before.before.before.before.before.args.waits c.before.before.before.before.before.before.args.word c.before.before.before.before.if1.false) c.before.before.instruction-line.ensures
+returns-2 c = makes_as (entry-word c.before.before.before.before.before.before.args.waits c.before.before.before.before.before.before.args.word c.before.before.before.before.if1.false) c.before.before.instruction-line.ensures
 
 pub entry-line-spec : {M : Type 1} → statement M
 entry-line-spec =

@@ -1,6 +1,6 @@
 -- `listpages::entries::hex_line` meets its contract.
-use Rattle.listpages.proofs.Entered.{hex-filled}
-use Rattle.lines.proofs.Answered.{makes-as}
+use Rattle.listpages.proofs.Entered.{hex_filled}
+use Rattle.lines.proofs.Answered.{makes_as}
 use mathlib.Core.Path.{refl}
 use borrow.Author.Rules.{rules}
 use Rattle.listpages.proofs.entries.hex_line.Statement.{statement}
@@ -36,7 +36,7 @@ same_length c = search rules
 
 -- src/entries.rt:27:1
 returns : tie.Need-returns
-returns c = makes-as (hex-filled c.before.before.before.before.before.before.before.before.before.args.word _ _ _ refl c.before.before.before.before.before.before.data-line.ensures) c.before.before.hand-over.ensures
+returns c = makes_as (hex_filled c.before.before.before.before.before.before.before.before.before.args.word _ _ _ refl c.before.before.before.before.before.before.data_line_lem.ensures) c.before.before.hand_over.ensures
 
 pub hex-line-spec : {M : Type 1} → statement M
 hex-line-spec =

@@ -1,8 +1,8 @@
 -- `listpages::entries::instruction_line` meets its contract.
 use Rattle.listpages.proofs.Entered.{filled-short, filled-long, filled-line, refused-line}
-use Rattle.listing.specs.Answers.{printedTells, outcome}
+use Rattle.listing.specs.Answers.{printed_tells, outcome}
 use Rattle.listing.specs.declared.Printed.{Printed}
-use Rattle.lines.proofs.Answered.{makes-as}
+use Rattle.lines.proofs.Answered.{makes_as}
 use lib.ListN.{length-take, length-set}
 use native.Mathlib.Omega.{arith}
 use mathlib.Core.Path.{refl, sym, ap, ◌∙◌}
@@ -37,7 +37,7 @@ enum-known-n c = search rules
 
 -- src/entries.rt:45:17
 returns : tie.Need-returns
-returns c = absurd (omega (arith, c.if1.true, filled-short c.before.before.before.before.before.before.before.before.args.word _ _ refl c.before.before.n.given.0.0 (ap (λ (p : Printed). outcome (printedTells p) c.before.before.before.before.before.line_of.new.1.0) (sym c.before.before.n.given.1) ∙ c.before.before.before.before.before.line_of.ensures)))
+returns c = absurd (omega (arith, c.if1.true, filled-short c.before.before.before.before.before.before.before.before.args.word _ _ refl c.before.before.n.given.0.0 (ap (λ (p : Printed). outcome (printed_tells p) c.before.before.before.before.before.line_of.new.1.0) (sym c.before.before.n.given.1) ∙ c.before.before.before.before.before.line_of.ensures)))
 
 -- src/entries.rt:47:13
 array-write-line : tie.Need-array-write-line
@@ -49,11 +49,11 @@ add-end c = search rules
 
 -- src/entries.rt:49:30
 array-share-prefix-line : tie.Need-array-share-prefix-line
-array-share-prefix-line c = simp length-set (omega (arith, c.if1.false, filled-long c.before.before.before.before.before.before.before.before.args.word _ _ refl c.before.before.n.given.0.0 (ap (λ (p : Printed). outcome (printedTells p) c.before.before.before.before.before.line_of.new.1.0) (sym c.before.before.n.given.1) ∙ c.before.before.before.before.before.line_of.ensures)))
+array-share-prefix-line c = simp length-set (omega (arith, c.if1.false, filled-long c.before.before.before.before.before.before.before.before.args.word _ _ refl c.before.before.n.given.0.0 (ap (λ (p : Printed). outcome (printed_tells p) c.before.before.before.before.before.line_of.new.1.0) (sym c.before.before.n.given.1) ∙ c.before.before.before.before.before.line_of.ensures)))
 
 -- src/entries.rt:49:30
 slice-aggregate-hand-over : tie.Need-slice-aggregate-hand-over
-slice-aggregate-hand-over c = simp (length-take, length-set) (omega (arith, c.before.if1.false, filled-long c.before.before.before.before.before.before.before.before.before.args.word _ _ refl c.before.before.before.n.given.0.0 (ap (λ (p : Printed). outcome (printedTells p) c.before.before.before.before.before.before.line_of.new.1.0) (sym c.before.before.before.n.given.1) ∙ c.before.before.before.before.before.before.line_of.ensures)))
+slice-aggregate-hand-over c = simp (length-take, length-set) (omega (arith, c.before.if1.false, filled-long c.before.before.before.before.before.before.before.before.before.args.word _ _ refl c.before.before.before.n.given.0.0 (ap (λ (p : Printed). outcome (printed_tells p) c.before.before.before.before.before.before.line_of.new.1.0) (sym c.before.before.before.n.given.1) ∙ c.before.before.before.before.before.before.line_of.ensures)))
 
 -- src/entries.rt:49:13
 hand-over-requires : tie.Need-hand-over-requires
@@ -65,7 +65,7 @@ same_length c = search rules
 
 -- src/entries.rt:37:1
 returns-2 : tie.Need-returns-2
-returns-2 c = makes-as (refused-line c.before.before.before.before.before.before.before.before.before.before.before.args.word _ _ refl c.before.before.before.before.before.number.given.0.0 (ap (λ (p : Printed). outcome (printedTells p) c.before.before.before.before.before.before.before.before.line_of.new.1.0) (sym c.before.before.before.before.before.number.given.1) ∙ c.before.before.before.before.before.before.before.before.line_of.ensures)) c.before.before.word-refused-line.ensures
+returns-2 c = makes_as (refused-line c.before.before.before.before.before.before.before.before.before.before.before.args.word _ _ refl c.before.before.before.before.before.number.given.0.0 (ap (λ (p : Printed). outcome (printed_tells p) c.before.before.before.before.before.before.before.before.line_of.new.1.0) (sym c.before.before.before.before.before.number.given.1) ∙ c.before.before.before.before.before.before.before.before.line_of.ensures)) c.before.before.word_refused_line_lem.ensures
 
 -- src/entries.rt:37:1
 same-length-2 : tie.Need-same-length-2
@@ -73,7 +73,7 @@ same-length-2 c = search rules
 
 -- src/entries.rt:37:1
 returns-3 : tie.Need-returns-3
-returns-3 c = makes-as (filled-line c.before.before.before.before.before.before.before.before.before.before.before.before.before.args.word _ _ refl c.before.before.before.before.before.before.before.n.given.0.0 (ap (λ (p : Printed). outcome (printedTells p) c.before.before.before.before.before.before.before.before.before.before.line_of.new.1.0) (sym c.before.before.before.before.before.before.before.n.given.1) ∙ c.before.before.before.before.before.before.before.before.before.before.line_of.ensures)) c.before.before.hand-over.ensures
+returns-3 c = makes_as (filled-line c.before.before.before.before.before.before.before.before.before.before.before.before.before.args.word _ _ refl c.before.before.before.before.before.before.before.n.given.0.0 (ap (λ (p : Printed). outcome (printed_tells p) c.before.before.before.before.before.before.before.before.before.before.line_of.new.1.0) (sym c.before.before.before.before.before.before.before.n.given.1) ∙ c.before.before.before.before.before.before.before.before.before.before.line_of.ensures)) c.before.before.hand_over.ensures
 
 pub instruction-line-spec : {M : Type 1} → statement M
 instruction-line-spec =

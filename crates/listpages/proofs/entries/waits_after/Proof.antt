@@ -18,7 +18,7 @@ returns c = search rules
 
 -- src/entries.rt:77:1
 returns-2 : tie.Need-returns-2
-returns-2 c = c.takes-immediate.ensures ∙ after-word c.before.before.args.waits c.before.before.args.word c.before.if1.false
+returns-2 c = c.takes_immediate_lem.ensures ∙ after-word c.before.before.args.waits c.before.before.args.word c.before.if1.false
 
 pub waits-after-spec : {M : Type 1} → statement M
 waits-after-spec = tie.close (tie.spec takes-immediate-requires returns returns-2)

@@ -1,9 +1,9 @@
 -- `listpages::listing_trace::join_lines` meets its contract.
 use Rattle.listpages.proofs.Outs.{list-begun, list_at, list-grown, list-turn, list-ended}
 use Rattle.listpages.proofs.Walks.{Walks}
-use Rattle.listpages.specs.Listing.{lineWordsFrom, listText}
-use Rattle.listpages.specs.Entries.{entryLine, waitsAfter}
-use Rattle.run.specs.Splitting.{cyclesIn}
+use Rattle.listpages.specs.Listing.{line_words_from, list_text}
+use Rattle.listpages.specs.Entries.{entry_line, waits_after}
+use Rattle.run.specs.Splitting.{cycles_in}
 use lib.ListN.{length}
 use Prim.Native.Nat.{◌-◌, ◌≤◌}
 use borrow.Author.Rules.{rules}
@@ -18,10 +18,10 @@ use Rattle.listpages.proofs.entries.waits_after.Reads as waits-after-reads
 use Rattle.listpages.proofs.listing_trace.line_word.Reads as line-word-reads
 
 abbrev invariant-loop : tie.invariant-loop
-invariant-loop words text₀ count waits₀ at₀ i₀ text waits at i = (i ≤ cyclesIn (length words)) × Walks entryLine waitsAfter (listText words) text₀ text at waits (lineWordsFrom words i (cyclesIn (length words) - i))
+invariant-loop words text₀ count waits₀ at₀ i₀ text waits at i = (i ≤ cycles_in (length words)) × Walks entry_line waits_after (list_text words) text₀ text at waits (line_words_from words i (cycles_in (length words) - i))
 
 abbrev decreases-loop : tie.decreases-loop
-decreases-loop words text₀ count waits₀ at₀ i₀ text waits at i = cyclesIn (length words) - i
+decreases-loop words text₀ count waits₀ at₀ i₀ text waits at i = cycles_in (length words) - i
 
 -- src/listing_trace.rt:59:5
 loop-holds : tie.Need-loop-init invariant-loop decreases-loop

@@ -1,7 +1,7 @@
 -- `listpages::listing_trace::list_trace` meets its contract.
 use Rattle.listpages.proofs.Outs.{listed-refused, listed-read}
 use Rattle.pages.proofs.Outs.{read-le}
-use Rattle.lines.specs.Lines.{lastLine}
+use Rattle.lines.specs.Lines.{last_line}
 use lib.ListN.{length-take}
 use native.Mathlib.Omega.{arith}
 use borrow.Author.Rules.{rules}
@@ -73,8 +73,8 @@ same-length-2 c = search rules
 
 -- src/listing_trace.rt:102:1
 returns : tie.Need-returns
-unfolding lastLine
-returns c = listed-refused c.before.before.before.before.before.before.before.before.before.before.before.before.before.before.before.before.before.args.trace.now _ _ _ c.before.before.before.before.before.before.before.before.before.before.before.before.read.ensures (search rules) _ _ _ _ _ _ _ c.before.before.before.before.before.before.before.before.before.number.given.1 c.before.before.before.before.before.before.last_line.ensures c.before.before.remark-line.ensures
+unfolding last_line
+returns c = listed-refused c.before.before.before.before.before.before.before.before.before.before.before.before.before.before.before.before.before.args.trace.now _ _ _ c.before.before.before.before.before.before.before.before.before.before.before.before.read.ensures (search rules) _ _ _ _ _ _ _ c.before.before.before.before.before.before.before.before.before.number.given.1 c.before.before.before.before.before.before.last_line.ensures c.before.before.remark_line_lem.ensures
 
 -- src/listing_trace.rt:102:1
 same-length-3 : tie.Need-same-length-3

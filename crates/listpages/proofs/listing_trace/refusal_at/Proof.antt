@@ -1,6 +1,6 @@
 -- `listpages::listing_trace::refusal_at` meets its contract.
 use Rattle.listpages.proofs.Entered.{refusal-word}
-use Rattle.isa.specs.Words.{decodedTells}
+use Rattle.isa.specs.Words.{decoded_tells}
 use Rattle.choice.specs.Tells.{Tells}
 use Rattle.isa.specs.declared.Named.{Named}
 use mathlib.Core.Path.{sym, ap, ◌∙◌}
@@ -29,11 +29,11 @@ enum-known-number c = search rules
 
 -- src/listing_trace.rt:31:1
 returns-2 : tie.Need-returns-2
-returns-2 c = refusal-word c.before.before.before.before.args.waits c.before.before.before.before.args.word 0 c.before.before.before.if1.false (ap (λ (t : Tells Named). t.number) (ap decodedTells (sym c.enum_told.given.1) ∙ c.before.before.decode.ensures))
+returns-2 c = refusal-word c.before.before.before.before.args.waits c.before.before.before.before.args.word 0 c.before.before.before.if1.false (ap (λ (t : Tells Named). t.number) (ap decoded_tells (sym c.enum_told.given.1) ∙ c.before.before.decode.ensures))
 
 -- src/listing_trace.rt:31:1
 returns-3 : tie.Need-returns-3
-returns-3 c = refusal-word c.before.before.before.before.before.args.waits c.before.before.before.before.before.args.word c.before.number.given.0.0 c.before.before.before.before.if1.false (ap (λ (t : Tells Named). t.number) (ap decodedTells (sym c.before.number.given.1) ∙ c.before.before.before.decode.ensures))
+returns-3 c = refusal-word c.before.before.before.before.before.args.waits c.before.before.before.before.before.args.word c.before.number.given.0.0 c.before.before.before.before.if1.false (ap (λ (t : Tells Named). t.number) (ap decoded_tells (sym c.before.number.given.1) ∙ c.before.before.before.decode.ensures))
 
 pub refusal-at-spec : {M : Type 1} → statement M
 refusal-at-spec =

@@ -1,5 +1,5 @@
 -- `machine::acting::outcome_for` meets its contract: a task of the status by its arm, the others by the operation.
-use Rattle.machine.specs.Acting.{outcomeFor}
+use Rattle.machine.specs.Acting.{outcome_for}
 use Rattle.machine.proofs.Seen.{computed}
 use borrow.Author.Rules.{rules}
 use Rattle.machine.proofs.acting.outcome_for.Statement.{statement}
@@ -33,23 +33,23 @@ perform-requires : tie.Need-perform-requires
 perform-requires c κs = search rules
 
 returns : tie.Need-returns
-unfolding outcomeFor
+unfolding outcome_for
 returns c = rw c.enum_told.given.1
 
 returns-2 : tie.Need-returns-2
-unfolding outcomeFor
+unfolding outcome_for
 returns-2 c = rw c.enum-told2.given.1
 
 returns-3 : tie.Need-returns-3
-unfolding outcomeFor
+unfolding outcome_for
 returns-3 c = rw (c.before.before.task.given.1, c.width-mask.ensures)
 
 returns-4 : tie.Need-returns-4
-unfolding outcomeFor
+unfolding outcome_for
 returns-4 c = rw c.before.task2.given.1
 
 returns-5 : tie.Need-returns-5
-unfolding outcomeFor
+unfolding outcome_for
 returns-5 c = rw c.enum-told3.given.1
 
 returns-6 : tie.Need-returns-6

@@ -1,5 +1,5 @@
 -- `machine::acting::performed` meets its contract: the operands are those of the plan's sources.
-use Rattle.machine.proofs.Seen.{source-at}
+use Rattle.machine.proofs.Seen.{source_at}
 use borrow.Author.Rules.{rules}
 use Rattle.machine.proofs.acting.performed.Statement.{statement}
 use Rattle.machine.proofs.acting.performed.Tie as tie
@@ -38,7 +38,7 @@ outcome-for-requires : tie.Need-outcome-for-requires
 outcome-for-requires c κs = search rules
 
 returns : tie.Need-returns
-returns c = rw (c.outcome-for.ensures, c.before.before.before.place.ensures.0, c.before.before.place2.ensures.0, c.before.place3.ensures.0, c.before.before.before.before.sources.ensures, source-at c.before.before.before.before.before.before.before.args.plan.work.operands.first c.before.before.before.before.before.before.before.args.view, source-at c.before.before.before.before.before.before.before.args.plan.work.operands.second c.before.before.before.before.before.before.before.args.view, source-at c.before.before.before.before.before.before.before.args.plan.work.operands.mask c.before.before.before.before.before.before.before.args.view)
+returns c = rw (c.outcome-for.ensures, c.before.before.before.place.ensures.0, c.before.before.place2.ensures.0, c.before.place3.ensures.0, c.before.before.before.before.sources.ensures, source_at c.before.before.before.before.before.before.before.args.plan.work.operands.first c.before.before.before.before.before.before.before.args.view, source_at c.before.before.before.before.before.before.before.args.plan.work.operands.second c.before.before.before.before.before.before.before.args.view, source_at c.before.before.before.before.before.before.before.args.plan.work.operands.mask c.before.before.before.before.before.before.before.args.view)
 
 pub performed-spec : {M : Type 1} → statement M
 performed-spec =

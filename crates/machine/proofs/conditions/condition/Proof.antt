@@ -1,6 +1,6 @@
 -- `machine::conditions::condition` meets its contract: the array is the list of conditions.
 use mathlib.Core.Path.{refl}
-use Rattle.machine.specs.Reporting.{conditionOf}
+use Rattle.machine.specs.Reporting.{condition_of}
 use borrow.Author.Rules.{rules}
 use Rattle.machine.proofs.conditions.condition.Statement.{statement}
 use Rattle.machine.proofs.conditions.condition.Tie as tie
@@ -15,7 +15,7 @@ array-read-result : tie.Need-array-read-result
 array-read-result c = search rules
 
 returns : tie.Need-returns
-unfolding conditionOf
+unfolding condition_of
 returns c = refl
 
 pub condition-spec : {M : Type 1} → statement M

@@ -8,7 +8,7 @@ names-immediate-requires : tie.Need-names-immediate-requires
 names-immediate-requires c κs = search rules
 
 returns : tie.Need-returns
-returns c = rw (c.names-immediate.ensures, eq-eqb _ _ c.before.if1.true)
+returns c = rw (c.names_immediate.ensures, eq-eqb _ _ c.before.if1.true)
 
 returns-2 : tie.Need-returns-2
 returns-2 c = rw (ne_eqb _ _ c.if1.false)

@@ -26,7 +26,7 @@ immediate-in-requires : tie.Need-immediate-in-requires
 immediate-in-requires c κs = search rules
 
 returns : tie.Need-returns
-returns c = judge-right c.before.before.before.before.before.before.before.before.before.args.waiting c.before.before.before.before.before.before.before.before.before.args.words c.before.before.before.before.before.before.before.before.word-about.result c.before.before.before.before.before.before.before.before.word-about.type-inv c.before.before.before.before.before.before.before.before.word-about.ensures c.before.before.before.before.before.before.before.look_up.result c.before.before.before.before.before.before.before.look_up.ensures c.before.before.before.before.before.plan-for.result c.before.before.before.before.before.plan-for.ensures c.before.before.before.asks-immediate.result c.before.before.before.asks-immediate.ensures _ c.before.before.cycle-refusal.ensures _ c.before.only-begins.ensures _ c.immediate-in.ensures
+returns c = judge-right c.before.before.before.before.before.before.before.before.before.args.waiting c.before.before.before.before.before.before.before.before.before.args.words c.before.before.before.before.before.before.before.before.word-about.result c.before.before.before.before.before.before.before.before.word-about.type-inv c.before.before.before.before.before.before.before.before.word-about.ensures c.before.before.before.before.before.before.before.look_up.result c.before.before.before.before.before.before.before.look_up.ensures c.before.before.before.before.before.plan_for.result c.before.before.before.before.before.plan_for.ensures c.before.before.before.asks-immediate.result c.before.before.before.asks-immediate.ensures _ c.before.before.cycle-refusal.ensures _ c.before.only-begins.ensures _ c.immediate-in.ensures
 
 pub judge-spec : {M : Type 1} → statement M
 judge-spec =

@@ -28,7 +28,7 @@ returns : tie.Need-returns
 returns c = search rules
 
 returns-2 : tie.Need-returns-2
-returns-2 c = rw (c.before.enum-told2.given.1, c.write-back.ensures)
+returns-2 c = rw (c.before.enum-told2.given.1, c.write_back_lem.ensures)
 
 returns-3 : tie.Need-returns-3
 returns-3 c = search rules

@@ -1,5 +1,5 @@
 -- `machine::settling::settle_ram` meets its contract: a word put back as it was changes nothing.
-use Rattle.machine.proofs.Steps.{ram-settled}
+use Rattle.machine.proofs.Steps.{ram_settled}
 use borrow.Author.Rules.{rules}
 use Rattle.machine.proofs.settling.settle_ram.Statement.{statement}
 use Rattle.machine.proofs.settling.settle_ram.Tie as tie
@@ -23,7 +23,7 @@ element-write-ram : tie.Need-element-write-ram
 element-write-ram c = search rules
 
 returns : tie.Need-returns
-returns c = rw c.settled-word.ensures (ram-settled c.before.before.args.mode c.before.before.args.register c.before.before.args.ram.now c.before.before.args.effect c.before.before.args.levels)
+returns c = rw c.settled-word.ensures (ram_settled c.before.before.args.mode c.before.before.args.register c.before.before.args.ram.now c.before.before.args.effect c.before.before.args.levels)
 
 pub settle-ram-spec : {M : Type 1} → statement M
 settle-ram-spec =

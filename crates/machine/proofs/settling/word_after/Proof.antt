@@ -28,7 +28,7 @@ returns-2 : tie.Need-returns-2
 returns-2 c = search rules
 
 returns-3 : tie.Need-returns-3
-returns-3 c = rw (c.before.enum-told3.given.1, c.write-back.ensures)
+returns-3 c = rw (c.before.enum-told3.given.1, c.write_back_lem.ensures)
 
 returns-4 : tie.Need-returns-4
 returns-4 c = search rules

@@ -1,5 +1,5 @@
 -- `machine::stepping::performs` meets its contract: its parts are those of the definition.
-use Rattle.machine.proofs.Steps.{performed-right}
+use Rattle.machine.proofs.Steps.{performed_right}
 use borrow.Author.Rules.{rules}
 use Rattle.machine.proofs.stepping.performs.Statement.{statement}
 use Rattle.machine.proofs.stepping.performs.Tie as tie
@@ -41,7 +41,7 @@ returns : tie.Need-returns
 returns c =
     let start = c.before.before.before.before.before.before.before.before.before.before.before.before in
     rw (c.t.ensures, c.before.ct.ensures, c.before.before.on-y2.ensures, c.before.before.before.on-y.ensures, c.before.before.before.before.settled-core.ensures, c.before.before.before.before.before.settle-ram.ensures, c.before.before.before.before.before.before.before.acted.ensures, c.before.before.before.before.before.before.before.before.seen.ensures)
-    (performed-right start.args.named start.args.plan start.args.ram.now start.args.core start.args.immediate start.args.levels)
+    (performed_right start.args.named start.args.plan start.args.ram.now start.args.core start.args.immediate start.args.levels)
 
 pub performs-spec : {M : Type 1} → statement M
 performs-spec =

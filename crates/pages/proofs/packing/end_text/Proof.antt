@@ -34,7 +34,7 @@ same_length : tie.Need-same-length
 same_length c = search rules
 
 returns : tie.Need-returns
-returns c = record { kept = c.before.before.before.before.before.before.before.before.before.before.before.before.take-piece.ensures.kept; written = faulty-ends c.before.before.before.before.before.before.before.before.before.before.before.before.before.before.before.before.before.before.args.reader _ c.before.before.before.before.before.before.before.before.before.before.before.before.before.before.before.before.before.before.args.words.now _ c.before.before.before.before.before.before.before.before.before.before.before.before.before.before.before.before.before.before.args.out.now _ _ _ _ _ _ _ _ c.before.before.before.before.before.before.before.before.before.before.before.before.take-piece.ensures.reader c.before.before.before.before.before.before.before.before.before.before.before.before.take-piece.ensures.kept c.before.before.before.before.before.before.before.before.before.before.before.before.take-piece.ensures.named c.before.before.before.before.before.before.before.before.say-unnamed.ensures.0 c.before.before.before.before.before.if1.true c.before.before.hand-over.ensures }
+returns c = record { kept = c.before.before.before.before.before.before.before.before.before.before.before.before.take-piece.ensures.kept; written = faulty-ends c.before.before.before.before.before.before.before.before.before.before.before.before.before.before.before.before.before.before.args.reader _ c.before.before.before.before.before.before.before.before.before.before.before.before.before.before.before.before.before.before.args.words.now _ c.before.before.before.before.before.before.before.before.before.before.before.before.before.before.before.before.before.before.args.out.now _ _ _ _ _ _ _ _ c.before.before.before.before.before.before.before.before.before.before.before.before.take-piece.ensures.reader c.before.before.before.before.before.before.before.before.before.before.before.before.take-piece.ensures.kept c.before.before.before.before.before.before.before.before.before.before.before.before.take-piece.ensures.named c.before.before.before.before.before.before.before.before.say-unnamed.ensures.0 c.before.before.before.before.before.if1.true c.before.before.hand_over.ensures }
 
 slice-aggregate-write-blocks : tie.Need-slice-aggregate-write-blocks
 slice-aggregate-write-blocks c = search rules

@@ -4,7 +4,7 @@ use borrow.Author.Rules.{rules}
 use Prim.Native.Nat.{◌-◌}
 use native.Mathlib.Omega.{arith}
 use lib.ListN.{length}
-use Rattle.text.proofs.Laws.{left-some}
+use Rattle.text.proofs.Laws.{left_some}
 use Rattle.pages.proofs.Pieces.{Taking, begins, ends, at-end, after-fault}
 use Rattle.pages.proofs.packing.take_piece.Statement.{statement}
 use Rattle.pages.proofs.packing.take_piece.Tie as tie
@@ -31,16 +31,16 @@ take-requires : tie.Need-take-requires invariant-loop decreases-loop
 take-requires c κs = search rules
 
 add-from : tie.Need-overflow-add-from invariant-loop decreases-loop
-add-from c = omega (arith, left-some c.before.before.before.before.before.before.before.before.before.args.piece.now c.before.before.before.before.before.before.loop.from _ _ _ _ c.before.before.before.before.before.loop-test.true c.before.before.take.ensures)
+add-from c = omega (arith, left_some c.before.before.before.before.before.before.before.before.before.args.piece.now c.before.before.before.before.before.before.loop.from _ _ _ _ c.before.before.before.before.before.loop-test.true c.before.before.take.ensures)
 
 enum_told : tie.Need-enum-told invariant-loop decreases-loop
 enum_told c = search rules
 
 loop-less : tie.Need-loop-smaller invariant-loop decreases-loop
-loop-less c = omega (arith, left-some c.before.before.before.before.before.before.before.before.before.before.before.args.piece.now c.before.before.before.before.before.before.before.before.loop.from _ _ _ _ c.before.before.before.before.before.before.before.loop-test.true c.before.before.before.before.take.ensures, c.before.before.before.before.before.before.before.loop-test.true)
+loop-less c = omega (arith, left_some c.before.before.before.before.before.before.before.before.before.before.before.args.piece.now c.before.before.before.before.before.before.before.before.loop.from _ _ _ _ c.before.before.before.before.before.before.before.loop-test.true c.before.before.before.before.take.ensures, c.before.before.before.before.before.before.before.loop-test.true)
 
 loop-again : tie.Need-loop-preserved invariant-loop decreases-loop
-loop-again c = at-end _ _ _ _ _ _ _ _ _ _ c.before.before.before.before.before.before.before.before.loop.invariant _ _ c.before.before.before.before.take.ensures (search rules) (left-some c.before.before.before.before.before.before.before.before.before.before.before.args.piece.now c.before.before.before.before.before.before.before.before.loop.from _ _ _ _ c.before.before.before.before.before.before.before.loop-test.true c.before.before.before.before.take.ensures).1 c.enum_told.given.1
+loop-again c = at-end _ _ _ _ _ _ _ _ _ _ c.before.before.before.before.before.before.before.before.loop.invariant _ _ c.before.before.before.before.take.ensures (search rules) (left_some c.before.before.before.before.before.before.before.before.before.before.before.args.piece.now c.before.before.before.before.before.before.before.before.loop.from _ _ _ _ c.before.before.before.before.before.before.before.loop-test.true c.before.before.before.before.take.ensures).1 c.enum_told.given.1
 
 enum-known-stop : tie.Need-enum-known-stop invariant-loop decreases-loop
 enum-known-stop c = search rules
@@ -49,10 +49,10 @@ name-fault-requires : tie.Need-name-fault-requires invariant-loop decreases-loop
 name-fault-requires c κs = (omega (arith, c.before.before.before.before.before.before.before.before.before.before.loop.invariant.by_most, c.before.before.before.before.before.before.before.before.before.before.loop.invariant.same-said, c.before.before.before.before.before.before.before.before.before.before.before.before.before.requires), λ q. omega (arith, ltb-true c.before.before.before.before.before.before.before.before.before.before.loop.state.faults 20 q, c.before.before.before.before.before.before.before.before.before.before.loop.invariant.by-faults, c.before.before.before.before.before.before.before.before.before.before.loop.invariant.same-said, c.before.before.before.before.before.before.before.before.before.before.before.before.before.requires))
 
 loop-less-2 : tie.Need-loop-smaller-2 invariant-loop decreases-loop
-loop-less-2 c = omega (arith, left-some c.before.before.before.before.before.before.before.before.before.before.before.before.before.before.before.before.args.piece.now c.before.before.before.before.before.before.before.before.before.before.before.before.before.loop.from _ _ _ _ c.before.before.before.before.before.before.before.before.before.before.before.before.loop-test.true c.before.before.before.before.before.before.before.before.before.take.ensures, c.before.before.before.before.before.before.before.before.before.before.before.before.loop-test.true)
+loop-less-2 c = omega (arith, left_some c.before.before.before.before.before.before.before.before.before.before.before.before.before.before.before.before.args.piece.now c.before.before.before.before.before.before.before.before.before.before.before.before.before.loop.from _ _ _ _ c.before.before.before.before.before.before.before.before.before.before.before.before.loop-test.true c.before.before.before.before.before.before.before.before.before.take.ensures, c.before.before.before.before.before.before.before.before.before.before.before.before.loop-test.true)
 
 loop-again-2 : tie.Need-loop-preserved-2 invariant-loop decreases-loop
-loop-again-2 c = after-fault _ _ _ _ _ _ _ _ _ _ c.before.before.before.before.before.before.before.before.before.before.before.before.before.loop.invariant _ _ c.before.before.before.before.before.before.before.before.before.take.ensures (search rules) (left-some c.before.before.before.before.before.before.before.before.before.before.before.before.before.before.before.before.args.piece.now c.before.before.before.before.before.before.before.before.before.before.before.before.before.loop.from _ _ _ _ c.before.before.before.before.before.before.before.before.before.before.before.before.loop-test.true c.before.before.before.before.before.before.before.before.before.take.ensures).1 _ c.before.before.before.before.before.stop.given.1 _ _ c.before.before.name-fault.ensures (search rules)
+loop-again-2 c = after-fault _ _ _ _ _ _ _ _ _ _ c.before.before.before.before.before.before.before.before.before.before.before.before.before.loop.invariant _ _ c.before.before.before.before.before.before.before.before.before.take.ensures (search rules) (left_some c.before.before.before.before.before.before.before.before.before.before.before.before.before.before.before.before.args.piece.now c.before.before.before.before.before.before.before.before.before.before.before.before.before.loop.from _ _ _ _ c.before.before.before.before.before.before.before.before.before.before.before.before.loop-test.true c.before.before.before.before.before.before.before.before.before.take.ensures).1 _ c.before.before.before.before.before.stop.given.1 _ _ c.before.before.name-fault.ensures (search rules)
 
 same_length : tie.Need-same-length invariant-loop decreases-loop
 same_length c = c.before.loop.invariant.same-said

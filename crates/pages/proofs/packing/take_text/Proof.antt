@@ -1,8 +1,8 @@
 -- `pages::packing::take_text` meets its contract: the mark, and then the bad lines.
 use native.Mathlib.Omega.{arith}
 use lib.ListN.{length-take}
-use Rattle.lines.proofs.Putting.{puts-both, line_made}
-use Rattle.pages.specs.Packing.{pieceSaid}
+use Rattle.lines.proofs.Putting.{puts_both, line_made}
+use Rattle.pages.specs.Packing.{piece_said}
 use borrow.Author.Rules.{rules}
 use Rattle.pages.proofs.packing.take_text.Statement.{statement}
 use Rattle.pages.proofs.packing.take_text.Tie as tie
@@ -32,8 +32,8 @@ same_length : tie.Need-same-length
 same_length c = search rules
 
 returns : tie.Need-returns
-unfolding pieceSaid
-returns c = record { reader = c.before.before.before.before.before.before.before.take-piece.ensures.reader; kept = c.before.before.before.before.before.before.before.take-piece.ensures.kept; told = line_made (puts-both c.before.before.before.before.before.before.before.before.before.before.before.say-mark.ensures.0 c.before.before.before.before.before.before.before.take-piece.ensures.named) c.before.before.hand-over.ensures }
+unfolding piece_said
+returns c = record { reader = c.before.before.before.before.before.before.before.take-piece.ensures.reader; kept = c.before.before.before.before.before.before.before.take-piece.ensures.kept; told = line_made (puts_both c.before.before.before.before.before.before.before.before.before.before.before.say-mark.ensures.0 c.before.before.before.before.before.before.before.take-piece.ensures.named) c.before.before.hand_over.ensures }
 
 pub take-text-spec : {M : Type 1} → statement M
 take-text-spec =

@@ -1,7 +1,7 @@
 -- `pages::packing::write_blocks` meets its contract: by the writer's answer.
 use native.Mathlib.Omega.{arith}
 use Rattle.pages.proofs.Answers.{found-long}
-use Rattle.pages.proofs.Outs.{refusal-room, refused-packs, accepted-packs}
+use Rattle.pages.proofs.Outs.{refusal_room, refused-packs, accepted-packs}
 use borrow.Author.Rules.{rules}
 use Rattle.pages.proofs.packing.write_blocks.Statement.{statement}
 use Rattle.pages.proofs.packing.write_blocks.Tie as tie
@@ -34,7 +34,7 @@ bytes-in-requires : tie.Need-bytes-in-requires
 bytes-in-requires c κs = search rules
 
 add-t22 : tie.Need-overflow-add-t22
-add-t22 c = omega (arith, c.bytes-in.ensures, refusal-room _ _ _ c.before.before.before.before.before.before.before.before.before.before.before.before.before.before.before.before.before.args.said.now _ c.before.before.before.before.before.before.before.before.before.before.before.before.before.before.before.before.before.args.at c.before.before.before.say-refused.ensures c.before.before.before.before.before.before.before.before.before.before.before.before.before.before.before.before.before.requires)
+add-t22 c = omega (arith, c.bytes-in.ensures, refusal_room _ _ _ c.before.before.before.before.before.before.before.before.before.before.before.before.before.before.before.before.before.args.said.now _ c.before.before.before.before.before.before.before.before.before.before.before.before.before.before.before.before.before.args.at c.before.before.before.say-refused.ensures c.before.before.before.before.before.before.before.before.before.before.before.before.before.before.before.before.before.requires)
 
 enum-known-n : tie.Need-enum-known-n
 enum-known-n c = search rules

@@ -2,7 +2,7 @@
 use native.Mathlib.Omega.{arith}
 use lib.ListN.{length-take}
 use Rattle.pages.proofs.Outs.{read-le, page-refused, page-read}
-use Rattle.lines.specs.Lines.{lastLine}
+use Rattle.lines.specs.Lines.{last_line}
 use borrow.Author.Rules.{rules}
 use Rattle.pages.proofs.running.run_trace.Statement.{statement}
 use Rattle.pages.proofs.running.run_trace.Tie as tie
@@ -41,7 +41,7 @@ same-length-2 : tie.Need-same-length-2
 same-length-2 c = search rules
 
 returns : tie.Need-returns
-unfolding lastLine
+unfolding last_line
 returns c = page-refused c.before.before.before.before.before.before.before.before.before.before.before.before.before.before.before.before.before.args.trace.now _ _ _ c.before.before.before.before.before.before.before.before.before.before.before.before.read.ensures (search rules) _ _ _ _ _ _ _ c.before.before.before.before.before.before.before.before.before.number.given.1 c.before.before.before.before.before.before.last_line.ensures c.before.before.say-refused.ensures
 
 same-length-3 : tie.Need-same-length-3

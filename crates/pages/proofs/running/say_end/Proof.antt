@@ -1,8 +1,8 @@
 -- `pages::running::say_end` meets its contract: by the ending.
 use Rattle.run.specs.declared.Ending.{Ending}
-use Rattle.lines.proofs.Answered.{makes-by}
-use Rattle.pages.specs.Running.{endSaid}
-use Rattle.pages.proofs.Answers.{refusal-said}
+use Rattle.lines.proofs.Answered.{makes_by}
+use Rattle.pages.specs.Running.{end_said}
+use Rattle.pages.proofs.Answers.{refusal_said_lem}
 use borrow.Author.Rules.{rules}
 use Rattle.pages.proofs.running.say_end.Statement.{statement}
 use Rattle.pages.proofs.running.say_end.Tie as tie
@@ -35,19 +35,19 @@ same_length : tie.Need-same-length
 same_length c = search rules
 
 returns : tie.Need-returns
-returns c = makes-by (λ (e : Ending). endSaid c.before.before.before.before.before.before.before.before.args.words.now e c.before.before.before.before.before.before.before.before.args.waiting) c.before.before.before.before.enum_told.given.1 c.before.before.say-waiting.ensures
+returns c = makes_by (λ (e : Ending). end_said c.before.before.before.before.before.before.before.before.args.words.now e c.before.before.before.before.before.before.before.before.args.waiting) c.before.before.before.before.enum_told.given.1 c.before.before.say-waiting.ensures
 
 same-length-2 : tie.Need-same-length-2
 same-length-2 c = search rules
 
 returns-2 : tie.Need-returns-2
-returns-2 c = makes-by (λ (e : Ending). endSaid c.before.before.before.before.before.before.before.before.args.words.now e c.before.before.before.before.before.before.before.before.args.waiting) c.before.before.before.before.enum-told2.given.1 c.before.before.say-waiting2.ensures
+returns-2 c = makes_by (λ (e : Ending). end_said c.before.before.before.before.before.before.before.before.args.words.now e c.before.before.before.before.before.before.before.before.args.waiting) c.before.before.before.before.enum-told2.given.1 c.before.before.say-waiting2.ensures
 
 same-length-3 : tie.Need-same-length-3
 same-length-3 c = search rules
 
 returns-3 : tie.Need-returns-3
-returns-3 c = makes-by (λ (e : Ending). endSaid c.before.before.before.before.before.before.before.before.before.before.before.args.words.now e c.before.before.before.before.before.before.before.before.before.before.before.args.waiting) c.before.before.before.before.before.before.before.ending.given.1 (refusal-said c.before.before.before.before.before.before.before.before.before.before.before.args.words.now _ _ _ _ c.before.before.before.before.before.before.before.before.before.before.before.args.waiting c.before.before.before.before.before.cycle-word.ensures c.before.before.before.before.cycle-word2.ensures c.before.before.remark-line.ensures)
+returns-3 c = makes_by (λ (e : Ending). end_said c.before.before.before.before.before.before.before.before.before.before.before.args.words.now e c.before.before.before.before.before.before.before.before.before.before.before.args.waiting) c.before.before.before.before.before.before.before.ending.given.1 (refusal_said_lem c.before.before.before.before.before.before.before.before.before.before.before.args.words.now _ _ _ _ c.before.before.before.before.before.before.before.before.before.before.before.args.waiting c.before.before.before.before.before.cycle-word.ensures c.before.before.before.before.cycle-word2.ensures c.before.before.remark_line_lem.ensures)
 
 pub say-end-spec : {M : Type 1} → statement M
 say-end-spec =

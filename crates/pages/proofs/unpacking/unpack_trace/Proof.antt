@@ -1,7 +1,7 @@
 -- `pages::unpacking::unpack_trace` meets its contract: by the reader's answer.
 use native.Mathlib.Omega.{arith}
 use lib.ListN.{length-take}
-use Rattle.lines.proofs.Answered.{nothing-made}
+use Rattle.lines.proofs.Answered.{nothing_made}
 use Rattle.pages.proofs.Outs.{read-le, unpacked-refused, unpacked-read}
 use borrow.Author.Rules.{rules}
 use Rattle.pages.proofs.unpacking.unpack_trace.Statement.{statement}
@@ -35,13 +35,13 @@ same_length : tie.Need-same-length
 same_length c = search rules
 
 returns : tie.Need-returns
-returns c = unpacked-refused c.before.before.before.before.before.before.before.before.before.before.before.before.before.args.trace.now _ _ _ c.before.before.before.before.before.before.before.before.read.ensures (search rules) _ _ _ _ _ _ _ c.before.before.before.before.before.number.given.1 (nothing-made _) c.before.before.say-refused.ensures
+returns c = unpacked-refused c.before.before.before.before.before.before.before.before.before.before.before.before.before.args.trace.now _ _ _ c.before.before.before.before.before.before.before.before.read.ensures (search rules) _ _ _ _ _ _ _ c.before.before.before.before.before.number.given.1 (nothing_made _) c.before.before.say-refused.ensures
 
 same-length-2 : tie.Need-same-length-2
 same-length-2 c = search rules
 
 returns-2 : tie.Need-returns-2
-returns-2 c = unpacked-read c.before.before.before.before.before.before.before.before.before.before.before.before.before.before.args.trace.now _ _ _ c.before.before.before.before.before.before.before.before.before.read.ensures (search rules) _ _ _ _ _ _ c.before.before.before.before.before.before.n.given.1 (search rules) c.before.before.unpack-words.ensures (nothing-made _)
+returns-2 c = unpacked-read c.before.before.before.before.before.before.before.before.before.before.before.before.before.before.args.trace.now _ _ _ c.before.before.before.before.before.before.before.before.before.read.ensures (search rules) _ _ _ _ _ _ c.before.before.before.before.before.before.n.given.1 (search rules) c.before.before.unpack-words.ensures (nothing_made _)
 
 pub unpack-trace-spec : {M : Type 1} → statement M
 unpack-trace-spec =

@@ -3,8 +3,8 @@ use native.Mathlib.Omega.{arith}
 use borrow.Author.Rules.{rules}
 use Rattle.text.proofs.bytes.digit_value.Statement.{statement}
 use Rattle.text.proofs.bytes.digit_value.Tie as tie
-use Rattle.text.specs.Bytes.{digitValue}
-use Rattle.text.proofs.Among.{among-them, before-them, after-them}
+use Rattle.text.specs.Bytes.{digit_value}
+use Rattle.text.proofs.Among.{among_them, before_them, after_them}
 
 sub-result : tie.Need-overflow-sub-result
 sub-result c = search rules
@@ -13,32 +13,32 @@ sub-result-2 : tie.Need-overflow-sub-result-2
 sub-result-2 c = search rules
 
 returns : tie.Need-returns
-unfolding digitValue
-returns c = rw (among-them 48 57 c.before.before.args.byte (omega arith) (omega arith))
+unfolding digit_value
+returns c = rw (among_them 48 57 c.before.before.args.byte (omega arith) (omega arith))
 
 returns-2 : tie.Need-returns-2
-unfolding digitValue
-returns-2 c = rw (after-them 48 57 c.before.before.before.before.args.byte (omega arith) (omega arith), among-them 65 70 c.before.before.before.before.args.byte (omega arith) (omega arith))
+unfolding digit_value
+returns-2 c = rw (after_them 48 57 c.before.before.before.before.args.byte (omega arith) (omega arith), among_them 65 70 c.before.before.before.before.args.byte (omega arith) (omega arith))
 
 returns-3 : tie.Need-returns-3
-unfolding digitValue
-returns-3 c = rw (after-them 48 57 c.before.before.before.before.before.before.args.byte (omega arith) (omega arith), after-them 65 70 c.before.before.before.before.before.before.args.byte (omega arith) (omega arith), among-them 97 102 c.before.before.before.before.before.before.args.byte (omega arith) (omega arith))
+unfolding digit_value
+returns-3 c = rw (after_them 48 57 c.before.before.before.before.before.before.args.byte (omega arith) (omega arith), after_them 65 70 c.before.before.before.before.before.before.args.byte (omega arith) (omega arith), among_them 97 102 c.before.before.before.before.before.before.args.byte (omega arith) (omega arith))
 
 returns-4 : tie.Need-returns-4
-unfolding digitValue
-returns-4 c = rw (before-them 48 57 c.before.args.byte (omega arith), before-them 65 70 c.before.args.byte (omega arith), before-them 97 102 c.before.args.byte (omega arith))
+unfolding digit_value
+returns-4 c = rw (before_them 48 57 c.before.args.byte (omega arith), before_them 65 70 c.before.args.byte (omega arith), before_them 97 102 c.before.args.byte (omega arith))
 
 returns-5 : tie.Need-returns-5
-unfolding digitValue
-returns-5 c = rw (after-them 48 57 c.before.before.before.args.byte (omega arith) (omega arith), before-them 65 70 c.before.before.before.args.byte (omega arith), before-them 97 102 c.before.before.before.args.byte (omega arith))
+unfolding digit_value
+returns-5 c = rw (after_them 48 57 c.before.before.before.args.byte (omega arith) (omega arith), before_them 65 70 c.before.before.before.args.byte (omega arith), before_them 97 102 c.before.before.before.args.byte (omega arith))
 
 returns-6 : tie.Need-returns-6
-unfolding digitValue
-returns-6 c = rw (after-them 48 57 c.before.before.before.before.before.args.byte (omega arith) (omega arith), after-them 65 70 c.before.before.before.before.before.args.byte (omega arith) (omega arith), before-them 97 102 c.before.before.before.before.before.args.byte (omega arith))
+unfolding digit_value
+returns-6 c = rw (after_them 48 57 c.before.before.before.before.before.args.byte (omega arith) (omega arith), after_them 65 70 c.before.before.before.before.before.args.byte (omega arith) (omega arith), before_them 97 102 c.before.before.before.before.before.args.byte (omega arith))
 
 returns-7 : tie.Need-returns-7
-unfolding digitValue
-returns-7 c = rw (after-them 48 57 c.before.before.before.before.before.before.args.byte (omega arith) (omega arith), after-them 65 70 c.before.before.before.before.before.before.args.byte (omega arith) (omega arith), after-them 97 102 c.before.before.before.before.before.before.args.byte (omega arith) (omega arith))
+unfolding digit_value
+returns-7 c = rw (after_them 48 57 c.before.before.before.before.before.before.args.byte (omega arith) (omega arith), after_them 65 70 c.before.before.before.before.before.before.args.byte (omega arith) (omega arith), after_them 97 102 c.before.before.before.before.before.before.args.byte (omega arith) (omega arith))
 
 pub digit-value-spec : {M : Type 1} → statement M
 digit-value-spec =

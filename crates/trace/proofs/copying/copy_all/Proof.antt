@@ -3,7 +3,7 @@ use mathlib.Core.Path.{◌∙◌}
 use Prim.Native.Nat.{◌-◌}
 use native.Mathlib.Omega.{arith}
 use lib.ListN.{length-take, length-drop}
-use Rattle.trace.proofs.Parts.{block-long}
+use Rattle.trace.proofs.Parts.{block_long}
 use Rattle.trace.proofs.Judged.{judged-all}
 use Rattle.trace.proofs.Copied.{Before, begins, again, count-here, room-here, ends}
 use Rattle.trace.proofs.copying.copy_all.Statement.{statement}
@@ -57,7 +57,7 @@ copy-block-requires : tie.Need-copy-block-requires invariant-loop decreases-loop
 copy-block-requires c κs =
     let room = room-here c.before.before.before.loop.invariant c.before.before.before.before.before.before.requires.1 c.before.before.before.before.before.before.requires.3 c.before.before.loop-test.true in
     let start = c.before.before.before.before.before.before in (
-      block-long c.before.before.before.loop.k start.args.blocks start.args.trace.now c.before.before.loop-test.true start.requires.1,
+      block_long c.before.before.before.loop.k start.args.blocks start.args.trace.now c.before.before.loop-test.true start.requires.1,
       count-here c.before.before.before.loop.invariant start.requires.1 start.requires.3 c.before.before.loop-test.true,
       simp (length-take, length-drop) (omega (arith, room)),
     )

@@ -6,7 +6,7 @@ use native.Mathlib.Omega.{arith}
 use lib.ListN.{drop, length-take, length-drop}
 use borrow.Author.Rules.{rules}
 use Rattle.trace.specs.Layout.{part, words_of}
-use Rattle.trace.specs.Blocks.{count_of, recordWords}
+use Rattle.trace.specs.Blocks.{count_of, record_words}
 use Rattle.trace.proofs.copying.copy_block.Statement.{statement}
 use Rattle.trace.proofs.copying.copy_block.Tie as tie
 
@@ -47,7 +47,7 @@ same_length : tie.Need-same-length
 same_length c = search rules
 
 returns : tie.Need-returns
-unfolding recordWords
+unfolding record_words
 returns c =
     let start = c.before.before.before.before.before.before.before.before.before in
     let block = start.args.block.now in

@@ -5,7 +5,7 @@ use Prim.Native.Nat.{◌-◌, ◌*◌, ◌≤◌}
 use native.Mathlib.Omega.{arith}
 use lib.ListN.{length, take, drop, length-set}
 use Rattle.trace.specs.Layout.{words_of}
-use Rattle.trace.proofs.Words.{words_step, words-none}
+use Rattle.trace.proofs.Words.{words_step, words_none}
 use Rattle.trace.proofs.copying.copy_words.Statement.{statement}
 use Rattle.trace.proofs.copying.copy_words.Tie as tie
 
@@ -61,7 +61,7 @@ same_length c = omega arith
 returns : tie.Need-returns invariant-loop decreases-loop
 returns c =
     let loop = c.before.loop in
-    sym (words-none loop.out c.before.before.before.before.args.area.now loop.i (omega arith) c.loop-test.false) ∙ loop.invariant.2
+    sym (words_none loop.out c.before.before.before.before.args.area.now loop.i (omega arith) c.loop-test.false) ∙ loop.invariant.2
 
 pub copy-words-spec : {M : Type 1} → statement M
 copy-words-spec =

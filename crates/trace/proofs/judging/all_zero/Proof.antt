@@ -4,13 +4,13 @@ use Prim.Native.Nat.{◌-◌, ◌≤◌}
 use native.Mathlib.Omega.{arith}
 use lib.ListN.{length, drop, drop_of_length-le}
 use borrow.Author.Tests.{eq-eqb, ne_eqb}
-use Rattle.trace.specs.Blocks.{allZero}
-use Rattle.trace.proofs.Words.{zero-step}
+use Rattle.trace.specs.Blocks.{all_zero}
+use Rattle.trace.proofs.Words.{zero_step}
 use Rattle.trace.proofs.judging.all_zero.Statement.{statement}
 use Rattle.trace.proofs.judging.all_zero.Tie as tie
 
 abbrev invariant-loop : tie.invariant-loop
-invariant-loop bytes i₀ i = (i ≤ length bytes) × (allZero (drop i bytes) ≡ allZero bytes)
+invariant-loop bytes i₀ i = (i ≤ length bytes) × (all_zero (drop i bytes) ≡ all_zero bytes)
 
 abbrev decreases-loop : tie.decreases-loop
 decreases-loop bytes i₀ i = length bytes - i
@@ -25,7 +25,7 @@ returns : tie.Need-returns invariant-loop decreases-loop
 returns c =
     let loop = c.before.before.before.loop in
     let bytes = c.before.before.before.before.args.bytes.now in
-    sym (sym loop.invariant.1 ∙ rw (zero-step bytes loop.i (omega arith), ne_eqb _ _ c.if1.true))
+    sym (sym loop.invariant.1 ∙ rw (zero_step bytes loop.i (omega arith), ne_eqb _ _ c.if1.true))
 
 add-i : tie.Need-overflow-add-i invariant-loop decreases-loop
 add-i c = omega arith
@@ -37,7 +37,7 @@ loop-again : tie.Need-loop-preserved invariant-loop decreases-loop
 loop-again c =
     let loop = c.before.before.before.loop in
     let bytes = c.before.before.before.before.args.bytes.now in
-    (omega arith, rw (eq-eqb _ _ c.if1.false) at (rw (zero-step bytes loop.i (omega arith)) at loop.invariant.1))
+    (omega arith, rw (eq-eqb _ _ c.if1.false) at (rw (zero_step bytes loop.i (omega arith)) at loop.invariant.1))
 
 returns-2 : tie.Need-returns-2 invariant-loop decreases-loop
 returns-2 c = rw (drop_of_length-le c.before.before.args.bytes.now c.loop-test.false) at c.before.loop.invariant.1

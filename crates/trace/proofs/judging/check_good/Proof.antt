@@ -1,7 +1,7 @@
 -- `trace::judging::check_good` meets its contract: the check worked out and the check held are compared.
 use mathlib.Core.Path.{◌∙◌}
 use borrow.Author.Rules.{rules}
-use Rattle.trace.proofs.Sound.{check-good-is}
+use Rattle.trace.proofs.Sound.{check_good_is}
 use Rattle.trace.proofs.judging.check_good.Statement.{statement}
 use Rattle.trace.proofs.judging.check_good.Tie as tie
 
@@ -24,7 +24,7 @@ check-held-requires : tie.Need-check-held-requires
 check-held-requires c κs = search rules
 
 returns : tie.Need-returns
-returns c = check-good-is c.before.wide_word.result c.check-held.result c.before.before.before.before.before.args.block.now (c.before.wide_word.ensures.0 ∙ c.before.before.check.ensures) c.check-held.ensures
+returns c = check_good_is c.before.wide_word.result c.check-held.result c.before.before.before.before.before.args.block.now (c.before.wide_word.ensures.0 ∙ c.before.before.check.ensures) c.check-held.ensures
 
 pub check-good-spec : {M : Type 1} → statement M
 check-good-spec =

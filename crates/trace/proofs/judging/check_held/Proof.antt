@@ -1,7 +1,7 @@
 -- `trace::judging::check_held` meets its contract: the high byte comes first.
 use native.Mathlib.Omega.{arith}
 use borrow.Author.Rules.{rules}
-use Rattle.trace.specs.Blocks.{checkHeld}
+use Rattle.trace.specs.Blocks.{check_held}
 use Rattle.trace.proofs.judging.check_held.Statement.{statement}
 use Rattle.trace.proofs.judging.check_held.Tie as tie
 
@@ -24,7 +24,7 @@ add-result : tie.Need-overflow-add-result
 add-result c = search rules
 
 returns : tie.Need-returns
-unfolding checkHeld
+unfolding check_held
 returns c = omega arith
 
 pub check-held-spec : {M : Type 1} → statement M

@@ -2,7 +2,7 @@
 use mathlib.Core.Path.{◌≡◌, refl, sym, ◌∙◌}
 use Prim.Native.Nat.{◌-◌, ◌*◌, ◌≤◌}
 use native.Mathlib.Omega.{arith}
-use Rattle.trace.proofs.Parts.{block-long}
+use Rattle.trace.proofs.Parts.{block_long}
 use Rattle.trace.proofs.Judged.{judgedFrom, judged-all, judged-end, judged-refused, judged-sound, count_at}
 use Rattle.trace.proofs.judging.judge.Statement.{statement}
 use Rattle.trace.proofs.judging.judge.Tie as tie
@@ -38,7 +38,7 @@ part-block-refusal-end : tie.Need-slice-bounds-block-refusal-end invariant-loop 
 part-block-refusal-end c = omega arith
 
 block-refusal-requires : tie.Need-block-refusal-requires invariant-loop decreases-loop
-block-refusal-requires c κs = block-long c.before.before.loop.k c.before.before.before.before.args.blocks c.before.before.before.before.args.trace.now c.before.loop-test.true c.before.before.before.before.requires.1
+block-refusal-requires c κs = block_long c.before.before.loop.k c.before.before.before.before.args.blocks c.before.before.before.before.args.trace.now c.before.loop-test.true c.before.before.before.before.requires.1
 
 returns : tie.Need-returns invariant-loop decreases-loop
 returns c =

@@ -4,7 +4,7 @@ use Prim.Native.Nat.{◌≤◌}
 use native.Mathlib.Omega.{arith}
 use borrow.Author.Rules.{rules}
 use borrow.Author.Tests.{not-false}
-use Rattle.trace.proofs.Sound.{count-good-says, shape-no-count, shape-no-form, shape-rest}
+use Rattle.trace.proofs.Sound.{count_good_says, shape-no-count, shape-no-form, shape-rest}
 use Rattle.trace.proofs.judging.shape_good.Statement.{statement}
 use Rattle.trace.proofs.judging.shape_good.Tie as tie
 
@@ -46,13 +46,13 @@ add-end c = search rules
 sub-all-zero : tie.Need-overflow-sub-all-zero
 sub-all-zero c =
     let few : c.before.before.before.before.before.wide.result ≤ 84 =
-    (count-good-says 3 c.before.before.before.before.before.before.before.before.args.left c.before.before.before.before.before.wide.result (sym c.before.before.before.before.count-good.ensures ∙ not-false c.before.before.before.before.count-good.result c.before.before.before.if1.false)).0 in
+    (count_good_says 3 c.before.before.before.before.before.before.before.before.args.left c.before.before.before.before.before.wide.result (sym c.before.before.before.before.count-good.ensures ∙ not-false c.before.before.before.before.count-good.result c.before.before.before.if1.false)).0 in
     omega arith
 
 part-all-zero-start : tie.Need-slice-bounds-all-zero-start
 part-all-zero-start c =
     let few : c.before.before.before.before.before.wide.result ≤ 84 =
-    (count-good-says 3 c.before.before.before.before.before.before.before.before.args.left c.before.before.before.before.before.wide.result (sym c.before.before.before.before.count-good.ensures ∙ not-false c.before.before.before.before.count-good.result c.before.before.before.if1.false)).0 in
+    (count_good_says 3 c.before.before.before.before.before.before.before.before.args.left c.before.before.before.before.before.wide.result (sym c.before.before.before.before.count-good.ensures ∙ not-false c.before.before.before.before.count-good.result c.before.before.before.if1.false)).0 in
     omega arith
 
 part-all-zero-end : tie.Need-slice-bounds-all-zero-end

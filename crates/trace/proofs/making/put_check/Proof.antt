@@ -1,7 +1,7 @@
 -- `trace::making::put_check` meets its contract: the high byte comes first.
 use mathlib.Core.Path.{◌∙◌}
 use borrow.Author.Rules.{rules}
-use Rattle.trace.proofs.Words.{set-2}
+use Rattle.trace.proofs.Words.{set_2}
 use Rattle.trace.proofs.making.put_check.Statement.{statement}
 use Rattle.trace.proofs.making.put_check.Tie as tie
 
@@ -23,7 +23,7 @@ same_length c = search rules
 returns : tie.Need-returns
 returns c =
     let start = c.before.before.before in
-    set-2 start.args.pair.now _ _ start.requires ∙ rw (c.before.high.ensures, c.low.ensures)
+    set_2 start.args.pair.now _ _ start.requires ∙ rw (c.before.high.ensures, c.low.ensures)
 
 pub put-check-spec : {M : Type 1} → statement M
 put-check-spec =

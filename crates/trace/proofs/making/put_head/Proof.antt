@@ -1,7 +1,7 @@
 -- `trace::making::put_head` meets its contract: four bytes are written one by one.
 use borrow.Author.Rules.{rules}
 use Rattle.trace.specs.Blocks.{head_of}
-use Rattle.trace.proofs.Words.{set-4}
+use Rattle.trace.proofs.Words.{set_4}
 use Rattle.trace.proofs.making.put_head.Statement.{statement}
 use Rattle.trace.proofs.making.put_head.Tie as tie
 
@@ -31,7 +31,7 @@ same_length c = search rules
 
 returns : tie.Need-returns
 unfolding head_of
-returns c = set-4 c.args.head.now _ _ _ _ c.requires.2
+returns c = set_4 c.args.head.now _ _ _ _ c.requires.2
 
 pub put-head-spec : {M : Type 1} → statement M
 put-head-spec =

@@ -5,7 +5,7 @@ use Prim.Native.Nat.{◌-◌, ◌*◌, ◌≤◌}
 use native.Mathlib.Omega.{arith}
 use lib.ListN.{length, take, drop, length-set}
 use Rattle.trace.specs.Layout.{bytes_of}
-use Rattle.trace.proofs.Words.{bytes-step, bytes-none}
+use Rattle.trace.proofs.Words.{bytes_step, bytes_none}
 use Rattle.trace.proofs.making.put_words.Statement.{statement}
 use Rattle.trace.proofs.making.put_words.Tie as tie
 
@@ -61,7 +61,7 @@ loop-again : tie.Need-loop-preserved invariant-loop decreases-loop
 loop-again c =
     let loop = c.before.before.before.before.before.loop in
     let words = c.before.before.before.before.before.before.before.before.args.words.now in
-    let e = bytes-step loop.area words loop.i c.before.before.low.result c.high.result (omega arith) (omega arith) c.before.before.low.ensures c.high.ensures in
+    let e = bytes_step loop.area words loop.i c.before.before.low.result c.high.result (omega arith) (omega arith) c.before.before.low.ensures c.high.ensures in
     (omega arith, simp length-set (omega arith), e ∙ loop.invariant.2)
 
 same_length : tie.Need-same-length invariant-loop decreases-loop
@@ -70,7 +70,7 @@ same_length c = omega arith
 returns : tie.Need-returns invariant-loop decreases-loop
 returns c =
     let loop = c.before.loop in
-    sym (bytes-none loop.area c.before.before.before.before.args.words.now loop.i (omega arith) c.loop-test.false) ∙ loop.invariant.2
+    sym (bytes_none loop.area c.before.before.before.before.args.words.now loop.i (omega arith) c.loop-test.false) ∙ loop.invariant.2
 
 pub put-words-spec : {M : Type 1} → statement M
 put-words-spec =

@@ -4,7 +4,7 @@ use native.Mathlib.Omega.{arith}
 use lib.ListN.{length}
 use borrow.Author.Rules.{rules}
 use Rattle.trace.specs.Blocks.{body_of, sealed}
-use Rattle.trace.proofs.Made.{body-long, sealed-is}
+use Rattle.trace.proofs.Made.{body_long, sealed_is}
 use Rattle.trace.proofs.making.write_block.Statement.{statement}
 use Rattle.trace.proofs.making.write_block.Tie as tie
 
@@ -52,8 +52,8 @@ returns c =
     let start = c.before.before.before.before.before.before.before.before.before.before.before.before.before in
     let body = c.before.before.before.before.before.before.before.before.before.put-body.new.1.1.0 in
     let made : body ≡ body_of 3 start.args.k start.args.words.now = c.before.before.before.before.before.before.before.before.before.put-body.ensures in
-    let long : length body ≡ 510 = ap length made ∙ body-long 3 start.args.k start.args.words.now (omega arith) in
-    sealed-is start.args.block.now body c.before.before.put-check.new.1.0 c.before.before.before.before.check.result (omega arith) long c.before.before.before.before.check.ensures c.before.before.put-check.ensures
+    let long : length body ≡ 510 = ap length made ∙ body_long 3 start.args.k start.args.words.now (omega arith) in
+    sealed_is start.args.block.now body c.before.before.put-check.new.1.0 c.before.before.before.before.check.result (omega arith) long c.before.before.before.before.check.ensures c.before.before.put-check.ensures
     ∙ ap sealed made
 
 pub write-block-spec : {M : Type 1} → statement M
