@@ -1,0 +1,10 @@
+-- `isa::slots::quadrant_3` meets its contract: B 12 is one slot, 13 to 15 another; the rest is the callee's.
+use Rattle.isa.proofs.Arms.{one_row}
+use native.Mathlib.Omega.{arith}
+use Rattle.isa.proofs.slots.quadrant_3.Goals as goal
+
+pub returns-in-12 : goal.returns-in-12
+returns-in-12 c = one_row 3 0 2 0 16 12 1 19 tt c.args.mark c.args.a c.args.b (omega arith)
+
+pub returns-in_default : goal.returns-in_default
+returns-in_default c = one_row 3 0 2 0 16 13 3 18 tt c.args.mark c.args.a c.args.b (omega arith)
