@@ -24,6 +24,9 @@ use Rattle.remainder.proofs.Cycles.{Put, put, Stepped, stepped}
 -- two cycles for each bit
 feeds_length : (d : Direction) (k : ℕ) (message : List Bool) (cycles : List Words) → Feeds d k message cycles → length cycles ≡ 2 * length message
 feeds_length d k [] [] empty = refl
+feeds_length d k [] (x ∷ _) feeds = elim feeds [ ]
+feeds_length d k (b ∷ message) [] feeds = elim feeds [ ]
+feeds_length d k (b ∷ message) (x ∷ []) feeds = elim feeds [ ]
 feeds_length d k (b ∷ message) (x ∷ y ∷ cycles) (next puts steps feeds) = omega (arith, feeds_length d k message cycles feeds)
 
 module _ (d : Direction) (k start polynomial : ℕ) (before : Registers) (ready : Ready d k start polynomial before) where
@@ -84,6 +87,9 @@ module _ (d : Direction) (k start polynomial : ℕ) (before : Registers) (ready 
   pub through : (bits message : List Bool) (cycles : List Words) (m : Machine) → After bits m.registers → Feeds d k message cycles
       → (n : Machine) × Leads m cycles n × After (bits ++ message) n.registers
   through bits [] [] m held empty = (m, refl, rw append-nil held)
+  through bits [] (x ∷ _) m held feeds = elim feeds [ ]
+  through bits (b ∷ message) [] m held feeds = elim feeds [ ]
+  through bits (b ∷ message) (x ∷ []) m held feeds = elim feeds [ ]
   through bits (b ∷ message) (x ∷ y ∷ cycles) m held (next puts steps feeds) =
       let more = through (bits ++ b ∷ []) message cycles (end bits b m x y held puts steps) (one_more_lem bits b m x y held puts steps) feeds in (
         more.0,
