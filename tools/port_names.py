@@ -19,6 +19,8 @@ FACTS = {
 LAWS = ['goes_on', 'no_key', 'one_more', 'same_names', 'same_place', 'same_text', 'text_in', 'bit-or', 'bit-and', 'bit-xor']
 DEFINED = re.compile(
     r'^(?:abbrev\s+|unfoldable\s+)*(?:pub\s+)?(?:abbrev\s+|unfoldable\s+)*([^\s:=(){};,.λ"]+)\s*:\s')
+# a definition within an unnamed module
+NESTED = re.compile(r'^ {2,4}(?:abbrev\s+|unfoldable\s+)*(?:pub\s+)?(?:abbrev\s+|unfoldable\s+)*([^\s:=(){};,.λ"→]+) : ')
 TOKEN = re.compile(r'[^\s(){}\[\];,."`⌜⌝λ→×]+')
 
 
@@ -45,6 +47,8 @@ def gathered():
                 inside = None
                 if defined:
                     names[defined.group(1)].add(path)
+            elif inside is None and NESTED.match(line):
+                names[NESTED.match(line).group(1)].add(path)
             elif inside == 'record':
                 field = re.match(r'^\s+(?:pub )?([^\s:|]+)\s*:', line)
                 if field:
@@ -54,13 +58,13 @@ def gathered():
     return names, fields
 
 
-def respelled(name, taken):
+def respelled(name, taken, laws):
     if name in FACTS:
         return FACTS[name]
     if not name[0].islower():
         return name
     new = snake(name)
-    return new + '_lem' if name in LAWS or ('-' in name and new in taken) else new
+    return new + '_lem' if name in laws or ('-' in name and new in taken) else new
 
 
 def clause_spans(text):
@@ -88,10 +92,12 @@ def main():
             new = new.replace('pub mod Contracts', 'pub mod Promises')
         if new != old:
             open(path, 'w').write(new)
+    first = not any('tactic(auto)' in open(path).read() for path in glob.glob('crates/*/src/*.rt'))
+    laws = LAWS if first else []
     names, fields = gathered()
-    words = set(names) | fields | set(LAWS)
-    camel = {snake(n) for n in words if n[0].islower() and '-' not in n}
-    table = {n: respelled(n, camel) for n in words}
+    words = set(names) | fields | set(laws)
+    plain = {snake(n) for n in words if n[0].islower() and '-' not in n}
+    table = {n: respelled(n, plain, laws) for n in words}
     table = {old: new for old, new in table.items() if old != new}
     together = collections.defaultdict(set)
     for name in words:
@@ -144,8 +150,9 @@ def main():
         # a clause names no function of src/, so a definition of the same name needs no alias
         new = re.sub(r'\b(\w+) as specs·\1\b', r'\1', new).replace('specs·', '')
         # plain values are copied, as they were
-        new = new.replace('#[derive(Drop)]', '#[derive(Clone, Copy)]')
-        if re.search(r'/src/(lib|main)\.rt$', path):
+        if first:
+            new = new.replace('#[derive(Drop)]', '#[derive(Clone, Copy)]')
+        if first and re.search(r'/src/(lib|main)\.rt$', path):
             lines = new.split('\n')
             at = next(i for i, line in enumerate(lines) if not line.startswith('//'))
             new = '\n'.join(lines[:at] + ['#![tactic(auto)]'] + lines[at:])

@@ -1,0 +1,50 @@
+-- `listpages::answering::join_answers` meets its contract.
+use Rattle.listpages.proofs.Outs.{next_reading, answers-begun, answers_at, answers-grown, answers-turn, answers-ended, answers-long}
+use Prim.Native.Nat.{◌-◌}
+use native.Mathlib.Omega.{arith}
+use Rattle.listpages.proofs.answering.join_answers.Reads as reads
+use Rattle.listpages.proofs.answering.join_answers.Lts as lts
+use Rattle.listpages.proofs.answering.count.Reads as count-reads
+use Rattle.listpages.proofs.answering.line_end.Reads as line-end-reads
+use Rattle.listpages.proofs.entries.answer_line.Reads as answer-line-reads
+use Rattle.listpages.proofs.entries.bytes_in.Reads as bytes-in-reads
+use Rattle.listpages.proofs.answering.join_answers.Goals as goal
+
+pub loop-from-init : goal.loop-from-init
+loop-from-init c = answers-begun c.args.reading c.args.bytes.now c.args.text.now
+
+pub line_end-end-requires : goal.line_end-end-requires
+line_end-end-requires c = omega (arith, c.loop-from-test.true)
+
+pub slice_bounds-answer_line-count : goal.slice_bounds-answer_line-count
+slice_bounds-answer_line-count c = omega (arith, c.line_end-end.ensures.later)
+
+pub slice_bounds-answer_line-start : goal.slice_bounds-answer_line-start
+slice_bounds-answer_line-start c = c.line_end-end.ensures.later
+
+pub slice_bounds-answer_line-end : goal.slice_bounds-answer_line-end
+slice_bounds-answer_line-end c = c.line_end-end.ensures.bound
+
+pub slice_bounds-answer_line-count-in-loop-from : goal.slice_bounds-answer_line-count-in-loop-from
+slice_bounds-answer_line-count-in-loop-from c = answers_at c.args.reading c.args.bytes.now c.args.text.now c.requires c.loop-from.text c.loop-from.at c.loop-from.state c.loop-from.from c.loop-from.invariant
+
+pub slice_bounds-answer_line-start-in-loop-from : goal.slice_bounds-answer_line-start-in-loop-from
+slice_bounds-answer_line-start-in-loop-from c = answers_at c.args.reading c.args.bytes.now c.args.text.now c.requires c.loop-from.text c.loop-from.at c.loop-from.state c.loop-from.from c.loop-from.invariant
+
+pub overflow_add-at : goal.overflow_add-at
+overflow_add-at c = omega (arith, c.bytes_in-at.ensures, answers-grown c.args.reading c.args.bytes.now c.args.text.now c.requires c.loop-from.text c.loop-from.at c.loop-from.state c.loop-from.from c.loop-from.invariant c.line_end-end.result c.line_end-end.ensures _ _ c.answer_line-answer.ensures.made)
+
+pub overflow_add-from : goal.overflow_add-from
+overflow_add-from c = omega (arith, c.line_end-end.ensures.bound)
+
+pub loop-from-smaller : goal.loop-from-smaller
+loop-from-smaller c = omega (arith, c.line_end-end.ensures.later, c.loop-from-test.true)
+
+pub loop-from-preserved : goal.loop-from-preserved
+loop-from-preserved c = rw c.bytes_in-at.ensures (answers-turn c.args.reading c.args.bytes.now c.args.text.now c.requires c.loop-from.text c.loop-from.at c.loop-from.state c.loop-from.from c.loop-from.invariant c.line_end-end.result c.line_end-end.ensures _ _ c.answer_line-answer.ensures.made _ (next_reading c.loop-from.state _ _ _ _ _ c.answer_line-answer.ensures c.count.ensures))
+
+pub shape_of-text : goal.shape_of-text
+shape_of-text c = answers-long c.args.reading c.args.bytes.now c.args.text.now c.loop-from.text c.loop-from.at c.loop-from.state c.loop-from.from c.loop-from.invariant
+
+pub returns : goal.returns
+returns c = answers-ended c.args.reading c.args.bytes.now c.args.text.now c.requires c.loop-from.text c.loop-from.at c.loop-from.state c.loop-from.from c.loop-from.invariant c.loop-from-test.false

@@ -1,0 +1,26 @@
+-- `listpages::answering::read_lines` meets its contract.
+-- src/answering.rt:84:9
+use Rattle.listpages.proofs.Outs.{piece-bound, piece-fits, piece-reads}
+use lib.ListN.{length-take}
+use native.Mathlib.Omega.{arith}
+use Rattle.listpages.proofs.answering.read_lines.Reads as reads
+use Rattle.listpages.proofs.answering.read_lines.Lts as lts
+use Rattle.lines.proofs.hand_over.Reads as hand-over-reads
+use Rattle.listpages.proofs.answering.join_answers.Reads as join-answers-reads
+use Rattle.listpages.proofs.answering.piece_end.Reads as piece-end-reads
+use Rattle.listpages.proofs.answering.read_lines.Goals as goal
+
+pub slice_bounds-join_answers-end : goal.slice_bounds-join_answers-end
+slice_bounds-join_answers-end c = simp length-take (omega (arith, (piece-bound c.args.reading c.args.bytes.now c.piece_end-end.result c.piece_end-end.ensures).0))
+
+pub join_answers-joined-requires : goal.join_answers-joined-requires
+join_answers-joined-requires c = omega (arith, piece-fits c.args.reading c.args.bytes.now c.piece_end-end.result c.piece_end-end.ensures)
+
+pub slice_bounds-text-end : goal.slice_bounds-text-end
+slice_bounds-text-end c = omega (arith, c.join_answers-joined.ensures.put.end, piece-fits c.args.reading c.args.bytes.now c.piece_end-end.result c.piece_end-end.ensures)
+
+pub slice_bounds-hand_over-end : goal.slice_bounds-hand_over-end
+slice_bounds-hand_over-end c = simp length-take (omega (arith, c.join_answers-joined.ensures.put.end, piece-fits c.args.reading c.args.bytes.now c.piece_end-end.result c.piece_end-end.ensures))
+
+pub returns : goal.returns
+returns c = piece-reads c.args.reading c.args.bytes.now c.piece_end-end.result c.piece_end-end.ensures c.join_answers-joined.result _ _ c.join_answers-joined.ensures c.hand_over.result _ _ c.hand_over.ensures

@@ -1,0 +1,15 @@
+-- `listpages::entries::entry_line` meets its contract.
+-- src/entries.rt:59:9
+use Rattle.listpages.proofs.Entered.{entry-data, entry-word}
+use Rattle.lines.proofs.Answered.{makes_as}
+use Rattle.listpages.proofs.entries.entry_line.Reads as reads
+use Rattle.listpages.proofs.entries.entry_line.Lts as lts
+use Rattle.listpages.proofs.entries.hex_line.Reads as hex-line-reads
+use Rattle.listpages.proofs.entries.instruction_line.Reads as instruction-line-reads
+use Rattle.listpages.proofs.entries.entry_line.Goals as goal
+
+pub returns-then-waits : goal.returns-then-waits
+returns-then-waits c = makes_as (entry-data c.args.waits c.args.word c.if-waits.true) c.hex_line.ensures
+
+pub returns-else-waits : goal.returns-else-waits
+returns-else-waits c = makes_as (entry-word c.args.waits c.args.word c.if-waits.false) c.instruction_line.ensures

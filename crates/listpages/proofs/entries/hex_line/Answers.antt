@@ -1,0 +1,13 @@
+-- `listpages::entries::hex_line` meets its contract.
+-- src/entries.rt:31:30
+use Rattle.listpages.proofs.Entered.{hex_filled}
+use Rattle.lines.proofs.Answered.{makes_as}
+use mathlib.Core.Path.{refl}
+use Rattle.listpages.proofs.entries.hex_line.Reads as reads
+use Rattle.listpages.proofs.entries.hex_line.Lts as lts
+use Rattle.lines.proofs.hand_over.Reads as hand-over-reads
+use Rattle.listing.proofs.data_line.Reads as data-line-reads
+use Rattle.listpages.proofs.entries.hex_line.Goals as goal
+
+pub returns : goal.returns
+returns c = makes_as (hex_filled c.args.word _ _ _ refl c.data_line.ensures) c.hand_over.ensures

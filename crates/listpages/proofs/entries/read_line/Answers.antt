@@ -1,0 +1,15 @@
+-- `listpages::entries::read_line` meets its contract.
+-- src/entries.rt:70:9
+use Rattle.listpages.proofs.Entered.{tells-data, tells-word}
+use mathlib.Core.Path.{◌∙◌}
+use Rattle.listpages.proofs.entries.read_line.Reads as reads
+use Rattle.listpages.proofs.entries.read_line.Lts as lts
+use Rattle.listing.proofs.data_of.Reads as data-of-reads
+use Rattle.listing.proofs.word_of.Reads as word-of-reads
+use Rattle.listpages.proofs.entries.read_line.Goals as goal
+
+pub returns-then-waits : goal.returns-then-waits
+returns-then-waits c = c.data_of.ensures ∙ tells-data c.args.waits c.args.line.now c.if-waits.true
+
+pub returns-else-waits : goal.returns-else-waits
+returns-else-waits c = c.word_of.ensures ∙ tells-word c.args.waits c.args.line.now c.if-waits.false

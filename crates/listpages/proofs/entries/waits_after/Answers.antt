@@ -1,0 +1,11 @@
+-- `listpages::entries::waits_after` meets its contract.
+-- src/entries.rt:83:9
+use Rattle.listpages.proofs.Entered.{after-word}
+use mathlib.Core.Path.{◌∙◌}
+use Rattle.listpages.proofs.entries.waits_after.Reads as reads
+use Rattle.listpages.proofs.entries.waits_after.Lts as lts
+use Rattle.isa.proofs.takes_immediate.Reads as takes-immediate-reads
+use Rattle.listpages.proofs.entries.waits_after.Goals as goal
+
+pub returns-else-waits : goal.returns-else-waits
+returns-else-waits c = c.takes_immediate.ensures ∙ after-word c.args.waits c.args.word c.if-waits.false
