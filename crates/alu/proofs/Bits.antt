@@ -68,21 +68,21 @@ module _ (w i x : ℕ) (h : i < w) where
   powers : 2 ^ (w - i) * 2 ^ i ≡ 2 ^ w
   powers = let e : (w - i) + i ≡ w = omega arith in sym (pow-add 2 (w - i) i) ∙ ap (λ (m : ℕ). 2 ^ m) e
 
-  above-lt : above < 2 ^ (w - i)
+  above_lt : above < 2 ^ (w - i)
   unfolding above
-  above-lt = let e : (w - i) + i ≡ w = omega arith in shr_lt (w - i) i (rw e (mod-lt x (pow_pos w)))
+  above_lt = let e : (w - i) + i ≡ w = omega arith in shr_lt (w - i) i (rw e (mod-lt x (pow_pos w)))
 
   parted : (rest : ℕ) → rest + 1 + above ≡ 2 ^ (w - i) → complement w x ≡ rest * 2 ^ i + (2 ^ i - 1 - low w x % 2 ^ i)
   unfolding above complement
   parted rest e =
       omega (arith, ap (λ (y : ℕ). y * 2 ^ i) e, powers, split (low w x) i, mod-lt (low w x) (pow_pos i))
 
-  pub bit-complement : bit i (complement w x) ≡ 1 - bit i x
+  pub bit_complement : bit i (complement w x) ≡ 1 - bit i x
   unfolding above
-  bit-complement =
+  bit_complement =
       let e : 2 ^ (w - i) ≡ 2 * 2 ^ (w - i - 1) = pow_half (w - i) (omega arith) in
-      let p : (2 ^ (w - i) - 1 - above) + 1 + above ≡ 2 ^ (w - i) = omega (arith, above-lt) in
-      let q : (2 ^ (w - i) - 1 - above) % 2 ≡ 1 - above % 2 = omega (arith, above-lt) in
+      let p : (2 ^ (w - i) - 1 - above) + 1 + above ≡ 2 ^ (w - i) = omega (arith, above_lt) in
+      let q : (2 ^ (w - i) - 1 - above) % 2 ≡ 1 - above % 2 = omega (arith, above_lt) in
       ap (bit i) (parted (2 ^ (w - i) - 1 - above) p)
       ∙ ap (λ (y : ℕ). y % 2) (high (2 ^ (w - i) - 1 - above) i (omega (arith, pow_pos i)))
       ∙ q ∙ ap (λ (y : ℕ). 1 - y) (bit_low w i x h)

@@ -1,5 +1,5 @@
--- The sums in the terms of whole numbers (specs/Sums): what C and OVR say of them. `sum-at-width`, first, is the one fact that byte and word
--- arithmetic share; `sums-meet`, `enough` and `same_leaves_one` stand at the end.
+-- The sums in the terms of whole numbers (specs/Sums): what C and OVR say of them. `sum_at_width`, first, is the one fact that byte and word
+-- arithmetic share; `sums_meet`, `enough` and `same_leaves_one` stand at the end.
 use mathlib.Core.Path.{◌≡◌, sym, ap, ap₂, ◌∙◌}
 use mathlib.Core.Logic.{◌↔◌}
 use Prim.Native.Nat.{ℕ, ◌+◌, ◌-◌, ◌*◌, ◌/◌, ◌%◌, ◌^◌, ◌≤◌, ◌<◌}
@@ -22,27 +22,27 @@ use Rattle.alu.specs.Flags.{stored_c}
 use Rattle.alu.specs.Operations.{carry_into, plus, minus, two_operand, one_operand, power, bit_operation, outcome_of}
 use Rattle.alu.specs.Sums.{InRange, Added, Taken, two_operand_terms, one_operand_terms, bit_terms, terms_of, Meets}
 use Rattle.alu.proofs.Fits.{low_lt, complement_lt}
-use Rattle.alu.proofs.Bits.{bit_cases, bits, bit_lt, bit-complement, pow_half}
-use Rattle.alu.proofs.Changes.{plus-carry, plus-overflow}
+use Rattle.alu.proofs.Bits.{bit_cases, bits, bit_lt, bit_complement, pow_half}
+use Rattle.alu.proofs.Changes.{plus_carry, plus_overflow}
 
 -- The sum.
 
 module _ (w a b k : ℕ) (ha : a < 2 ^ w) (hb : b < 2 ^ w) (hk : k < 2) where
-  carry-is : carry_into w a b k ≡ (a + b + k) / 2 ^ w
-  carry-is =
+  carry_is : carry_into w a b k ≡ (a + b + k) / 2 ^ w
+  carry_is =
       ap₂ (λ (x y : ℕ). (x + y + k) / 2 ^ w % 2) (mod-eq_of_lt ha) (mod-eq_of_lt hb)
       ∙ mod-eq_of_lt (shr_lt 1 w (omega (arith, pow-add 2 1 w)))
 
   -- the result and the carry out are the whole sum
-  pub sum-at-width : low w (a + b + k) + 2 ^ w * carry_into w a b k ≡ a + b + k
-  sum-at-width = omega (arith, ap (λ (x : ℕ). 2 ^ w * x) carry-is, div-add-mod (a + b + k) (2 ^ w))
+  pub sum_at_width : low w (a + b + k) + 2 ^ w * carry_into w a b k ≡ a + b + k
+  sum_at_width = omega (arith, ap (λ (x : ℕ). 2 ^ w * x) carry_is, div-add-mod (a + b + k) (2 ^ w))
 
 -- both modes by that fact
 pub byte_sum : (a b k : ℕ) → a < 2 ^ 8 → b < 2 ^ 8 → k < 2 → low 8 (a + b + k) + 2 ^ 8 * carry_into 8 a b k ≡ a + b + k
-byte_sum = sum-at-width 8
+byte_sum = sum_at_width 8
 
 pub word_sum : (a b k : ℕ) → a < 2 ^ 16 → b < 2 ^ 16 → k < 2 → low 16 (a + b + k) + 2 ^ 16 * carry_into 16 a b k ≡ a + b + k
-word_sum = sum-at-width 16
+word_sum = sum_at_width 16
 
 -- The two carries and the signed range.
 
@@ -60,8 +60,8 @@ module _ (h e y : ℕ) (he : e < h) (hy : y < 2 * h) where
       → (bit_xor c d ≡ 0)
       ↔ ((ta * (2 * h) + tb * (2 * h) ≤ (ta + tb + d) * h + e + h) × ((ta + tb + d) * h + e < ta * (2 * h) + tb * (2 * h) + h))
 
-  two-carries : (ta tb c d : ℕ) → ta < 2 → tb < 2 → c < 2 → d < 2 → Claim ta tb c d
-  two-carries ta tb c d la lb lc ld =
+  two_carries : (ta tb c d : ℕ) → ta < 2 → tb < 2 → c < 2 → d < 2 → Claim ta tb c d
+  two_carries ta tb c d la lb lc ld =
       bits (λ (ta tb : ℕ). Claim ta tb c d)
       (bits (Claim 0 0) (λ p. omega arith) (λ p. omega arith) (λ p. omega arith) (λ p. omega arith) c d lc ld)
       (bits (Claim 0 1) (λ p. omega arith) (λ p. omega arith) (λ p. omega arith) (λ p. omega arith) c d lc ld)
@@ -73,40 +73,40 @@ module _ (w : ℕ) (wide : 0 < w) (a b k status : ℕ) (ha : a < 2 ^ w) (hb : b 
   below : ℕ
   below = low (w - 1) a + low (w - 1) b + k
 
-  below-lt : below < 2 ^ w
+  below_lt : below < 2 ^ w
   unfolding below
-  below-lt = omega (arith, pow_half w wide, low_lt (w - 1) a, low_lt (w - 1) b)
+  below_lt = omega (arith, pow_half w wide, low_lt (w - 1) a, low_lt (w - 1) b)
 
   -- the sum by its top bits, the carry into the top, and the rest
   parts : (bit (w - 1) a + bit (w - 1) b + carry_into (w - 1) a b k) * 2 ^ (w - 1) + below % 2 ^ (w - 1) ≡ a + b + k
   unfolding below
-  parts = omega (arith, top_split w a wide ha, top_split w b wide hb, top_split w below wide below-lt)
+  parts = omega (arith, top_split w a wide ha, top_split w b wide hb, top_split w below wide below_lt)
 
-  pub plus-added : Added w a b k (plus w a b k status)
+  pub plus_added : Added w a b k (plus w a b k status)
   unfolding plus below
-  plus-added = record {
-    total = rw (plus-carry w a b k status) (sum-at-width w a b k ha hb hk);
+  plus_added = record {
+    total = rw (plus_carry w a b k status) (sum_at_width w a b k ha hb hk);
     in_range =
         let c = carry_into w a b k in
         let d = carry_into (w - 1) a b k in
         let p : low w (a + b + k) + 2 * 2 ^ (w - 1) * c ≡ (bit (w - 1) a + bit (w - 1) b + d) * 2 ^ (w - 1) + below % 2 ^ (w - 1) =
-        omega (arith, ap (λ (x : ℕ). x * c) (pow_half w wide), sum-at-width w a b k ha hb hk, parts) in
+        omega (arith, ap (λ (x : ℕ). x * c) (pow_half w wide), sum_at_width w a b k ha hb hk, parts) in
         let y-lt : low w (a + b + k) < 2 * 2 ^ (w - 1) = omega (arith, pow_half w wide, low_lt w (a + b + k)) in
-        rw (plus-overflow w a b k status)
+        rw (plus_overflow w a b k status)
         (rw (parts, sym (pow_half w wide)) at
-        (two-carries (2 ^ (w - 1)) (below % 2 ^ (w - 1)) (low w (a + b + k)) (low_lt (w - 1) below) y-lt
+        (two_carries (2 ^ (w - 1)) (below % 2 ^ (w - 1)) (low w (a + b + k)) (low_lt (w - 1) below) y-lt
         (bit (w - 1) a) (bit (w - 1) b) c d (bit_lt (w - 1) a) (bit_lt (w - 1) b) (bit_lt w (low w a + low w b + k)) (bit_lt (w - 1) below) p));
   }
 
 -- The difference: the complement is what is left to 2 ^ w, less 1.
 
 module _ (w : ℕ) (wide : 0 < w) (a b k status : ℕ) (ha : a < 2 ^ w) (hb : b < 2 ^ w) (hk : k < 2) where
-  complement-is : complement w b + b + 1 ≡ 2 ^ w
+  complement_is : complement w b + b + 1 ≡ 2 ^ w
   unfolding complement
-  complement-is = rw (mod-eq_of_lt hb) (omega arith)
+  complement_is = rw (mod-eq_of_lt hb) (omega arith)
 
   added : Added w a (complement w b) k (plus w a (complement w b) k status)
-  added = plus-added w wide a (complement w b) k status ha (complement_lt w b) hk
+  added = plus_added w wide a (complement w b) k status ha (complement_lt w b) hk
 
   borrow : (y c : ℕ) → y < 2 ^ w → c < 2 → y + 2 ^ w * c + b + 1 ≡ a + k + 2 ^ w → (c ≡ 1) ↔ (b < a + k)
   borrow y c hy =
@@ -117,14 +117,14 @@ module _ (w : ℕ) (wide : 0 < w) (a b k status : ℕ) (ha : a < 2 ^ w) (hb : b 
       → InRange w (a + complement w b + k) (ta * 2 ^ w + (1 - tb) * 2 ^ w) ↔ InRange w (a + k + tb * 2 ^ w) (b + 1 + ta * 2 ^ w)
   shifted = bits
       (λ (ta tb : ℕ). InRange w (a + complement w b + k) (ta * 2 ^ w + (1 - tb) * 2 ^ w) ↔ InRange w (a + k + tb * 2 ^ w) (b + 1 + ta * 2 ^ w))
-      (omega (arith, complement-is)) (omega (arith, complement-is)) (omega (arith, complement-is)) (omega (arith, complement-is))
+      (omega (arith, complement_is)) (omega (arith, complement_is)) (omega (arith, complement_is)) (omega (arith, complement_is))
 
-  pub minus-taken : Taken w a b k (minus w a b k status)
+  pub minus_taken : Taken w a b k (minus w a b k status)
   unfolding minus plus
-  minus-taken =
+  minus_taken =
       let o = plus w a (complement w b) k status in
-      let whole : o.result + 2 ^ w * stored_c o.status + b + 1 ≡ a + k + 2 ^ w = omega (arith, added.total, complement-is) in
-      let turned = rw (bit-complement w (w - 1) b (omega arith)) at added.in_range in
+      let whole : o.result + 2 ^ w * stored_c o.status + b + 1 ≡ a + k + 2 ^ w = omega (arith, added.total, complement_is) in
+      let turned = rw (bit_complement w (w - 1) b (omega arith)) at added.in_range in
       let same = shifted (bit (w - 1) a) (bit (w - 1) b) (bit_lt (w - 1) a) (bit_lt (w - 1) b) in
       record {
         by_complement = added.total;
@@ -136,52 +136,52 @@ module _ (w : ℕ) (wide : 0 < w) (a b k status : ℕ) (ha : a < 2 ^ w) (hb : b 
 -- Over all operations.
 
 module _ (w : ℕ) (wide : 0 < w) (status : ℕ) where
-  two-operand-meets : (kind : TwoOperandKind) (r s : ℕ) → r < 2 ^ w → s < 2 ^ w
+  two_operand_meets : (kind : TwoOperandKind) (r s : ℕ) → r < 2 ^ w → s < 2 ^ w
       → Meets w (two_operand_terms kind r s (stored_c status)) (two_operand w kind r s status)
   unfolding two_operand
-  two-operand-meets SMinusR r s h l = minus-taken w wide s r 1 status l h (lit< tt)
-  two-operand-meets SMinusRWithCarry r s h l = minus-taken w wide s r (stored_c status) status l h (bit_lt 1 status)
-  two-operand-meets RMinusS r s h l = minus-taken w wide r s 1 status h l (lit< tt)
-  two-operand-meets RMinusSWithCarry r s h l = minus-taken w wide r s (stored_c status) status h l (bit_lt 1 status)
-  two-operand-meets RPlusS r s h l = plus-added w wide r s 0 status h l (lit< tt)
-  two-operand-meets RPlusSWithCarry r s h l = plus-added w wide r s (stored_c status) status h l (bit_lt 1 status)
-  two-operand-meets And r s h l = tt
-  two-operand-meets Nand r s h l = tt
-  two-operand-meets Xor r s h l = tt
-  two-operand-meets Nor r s h l = tt
-  two-operand-meets Or r s h l = tt
-  two-operand-meets Xnor r s h l = tt
+  two_operand_meets SMinusR r s h l = minus_taken w wide s r 1 status l h (lit< tt)
+  two_operand_meets SMinusRWithCarry r s h l = minus_taken w wide s r (stored_c status) status l h (bit_lt 1 status)
+  two_operand_meets RMinusS r s h l = minus_taken w wide r s 1 status h l (lit< tt)
+  two_operand_meets RMinusSWithCarry r s h l = minus_taken w wide r s (stored_c status) status h l (bit_lt 1 status)
+  two_operand_meets RPlusS r s h l = plus_added w wide r s 0 status h l (lit< tt)
+  two_operand_meets RPlusSWithCarry r s h l = plus_added w wide r s (stored_c status) status h l (bit_lt 1 status)
+  two_operand_meets And r s h l = tt
+  two_operand_meets Nand r s h l = tt
+  two_operand_meets Xor r s h l = tt
+  two_operand_meets Nor r s h l = tt
+  two_operand_meets Or r s h l = tt
+  two_operand_meets Xnor r s h l = tt
 
-  one-operand-meets : (kind : OneOperandKind) (a : ℕ) → a < 2 ^ w → Meets w (one_operand_terms kind a) (one_operand w kind a status)
+  one_operand_meets : (kind : OneOperandKind) (a : ℕ) → a < 2 ^ w → Meets w (one_operand_terms kind a) (one_operand w kind a status)
   unfolding one_operand
-  one-operand-meets Move a h = tt
-  one-operand-meets Complement a h = tt
-  one-operand-meets Increment a h = plus-added w wide a 0 1 status h (pow_pos w) (lit< tt)
-  one-operand-meets Negate a h = minus-taken w wide 0 a 1 status (pow_pos w) h (lit< tt)
+  one_operand_meets Move a h = tt
+  one_operand_meets Complement a h = tt
+  one_operand_meets Increment a h = plus_added w wide a 0 1 status h (pow_pos w) (lit< tt)
+  one_operand_meets Negate a h = minus_taken w wide 0 a 1 status (pow_pos w) h (lit< tt)
 
-  bit-meets : (kind : BitKind) (n a : ℕ) → a < 2 ^ w → Meets w (bit_terms kind a (power w n)) (bit_operation w kind n a status)
+  bit_meets : (kind : BitKind) (n a : ℕ) → a < 2 ^ w → Meets w (bit_terms kind a (power w n)) (bit_operation w kind n a status)
   unfolding bit_operation
-  bit-meets SetBit n a h = tt
-  bit-meets ResetBit n a h = tt
-  bit-meets TestBit n a h = tt
-  bit-meets LoadBit n a h = tt
-  bit-meets LoadBitComplement n a h = tt
-  bit-meets AddBit n a h = plus-added w wide a (power w n) 0 status h (pow-lt (mod-lt n wide)) (lit< tt)
-  bit-meets SubtractBit n a h = minus-taken w wide a (power w n) 1 status h (pow-lt (mod-lt n wide)) (lit< tt)
+  bit_meets SetBit n a h = tt
+  bit_meets ResetBit n a h = tt
+  bit_meets TestBit n a h = tt
+  bit_meets LoadBit n a h = tt
+  bit_meets LoadBitComplement n a h = tt
+  bit_meets AddBit n a h = plus_added w wide a (power w n) 0 status h (pow-lt (mod-lt n wide)) (lit< tt)
+  bit_meets SubtractBit n a h = minus_taken w wide a (power w n) 1 status h (pow-lt (mod-lt n wide)) (lit< tt)
 
   -- every sum and difference has the result, C and OVR of its whole numbers
-  pub sums-meet : (operation : Operation) → Meets w (terms_of w operation status) (outcome_of w operation status)
+  pub sums_meet : (operation : Operation) → Meets w (terms_of w operation status) (outcome_of w operation status)
   unfolding outcome_of
-  sums-meet (TwoOperand kind r s) = two-operand-meets kind (low w r) (low w s) (low_lt w r) (low_lt w s)
-  sums-meet (OneOperand kind source) = one-operand-meets kind (low w source) (low_lt w source)
-  sums-meet (Bit kind n source) = bit-meets kind n (low w source) (low_lt w source)
-  sums-meet (Shift kind source) = tt
-  sums-meet (Rotate n source) = tt
-  sums-meet (Merge n u r mask) = tt
-  sums-meet (Compare n u r mask) = tt
-  sums-meet (Prioritize source mask) = tt
-  sums-meet (CrcForward register acc) = tt
-  sums-meet (CrcReverse register acc) = tt
+  sums_meet (TwoOperand kind r s) = two_operand_meets kind (low w r) (low w s) (low_lt w r) (low_lt w s)
+  sums_meet (OneOperand kind source) = one_operand_meets kind (low w source) (low_lt w source)
+  sums_meet (Bit kind n source) = bit_meets kind n (low w source) (low_lt w source)
+  sums_meet (Shift kind source) = tt
+  sums_meet (Rotate n source) = tt
+  sums_meet (Merge n u r mask) = tt
+  sums_meet (Compare n u r mask) = tt
+  sums_meet (Prioritize source mask) = tt
+  sums_meet (CrcForward register acc) = tt
+  sums_meet (CrcReverse register acc) = tt
 
 -- with a carry in of 1: C is 1 exactly where no more is taken than there is
 pub enough : {w a b : ℕ} {o : Outcome} → Taken w a b 1 o → (stored_c o.status ≡ 1) ↔ (b ≤ a)
@@ -189,4 +189,4 @@ enough t = ((λ z. let h = t.unborrowed.0 z in omega arith), (λ h. t.unborrowed
 
 -- so x - x leaves C 1
 pub same_leaves_one : (w : ℕ) → 0 < w → (x status : ℕ) → stored_c (outcome_of w (TwoOperand RMinusS x x) status).status ≡ 1
-same_leaves_one w wide x status = (enough (sums-meet w wide status (TwoOperand RMinusS x x))).1 (le_refl (low w x))
+same_leaves_one w wide x status = (enough (sums_meet w wide status (TwoOperand RMinusS x x))).1 (le_refl (low w x))

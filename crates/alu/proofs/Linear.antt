@@ -21,21 +21,21 @@ module _ (w acc : ℕ) where
   abbrev pub fed : ℕ → ℕ → ℕ
   fed register status = bit_xor (stored_link status) (bit (w - 1) register)
 
-  pub fed-lt : (register status : ℕ) → fed register status < 2
-  fed-lt register status = xor_lt 1 (stored_link status) (bit (w - 1) register) (bit_lt 4 status) (bit_lt (w - 1) register)
+  pub fed_lt : (register status : ℕ) → fed register status < 2
+  fed_lt register status = xor_lt 1 (stored_link status) (bit (w - 1) register) (bit_lt 4 status) (bit_lt (w - 1) register)
 
   pub step_is : (register status : ℕ) → (crc_forward w register acc status).result ≡ bit_xor (moved_up w register 0) (gated (fed register status) acc)
   unfolding plain linked with_sign crc_step crc_forward
   step_is register status = refl
 
   module _ (r s p q both : ℕ) (link : stored_link both ≡ bit_xor (stored_link p) (stored_link q)) where
-    fed-linear : fed (bit_xor r s) both ≡ bit_xor (fed r p) (fed s q)
-    fed-linear = ap₂ bit_xor link (bit_xor_lem (w - 1) r s) ∙ xor_exchange (stored_link p) (stored_link q) (bit (w - 1) r) (bit (w - 1) s)
+    fed_linear : fed (bit_xor r s) both ≡ bit_xor (fed r p) (fed s q)
+    fed_linear = ap₂ bit_xor link (bit_xor_lem (w - 1) r s) ∙ xor_exchange (stored_link p) (stored_link q) (bit (w - 1) r) (bit (w - 1) s)
 
-    pub crc-linear : (crc_forward w (bit_xor r s) acc both).result ≡ bit_xor (crc_forward w r acc p).result (crc_forward w s acc q).result
-    crc-linear =
+    pub crc_linear : (crc_forward w (bit_xor r s) acc both).result ≡ bit_xor (crc_forward w r acc p).result (crc_forward w s acc q).result
+    crc_linear =
         step_is (bit_xor r s) both
-        ∙ ap₂ (λ (m f : ℕ). bit_xor m (gated f acc)) (up_linear w r s) fed-linear
-        ∙ ap (bit_xor (bit_xor (moved_up w r 0) (moved_up w s 0))) (gated_linear acc (fed r p) (fed s q) (fed-lt r p) (fed-lt s q))
+        ∙ ap₂ (λ (m f : ℕ). bit_xor m (gated f acc)) (up_linear w r s) fed_linear
+        ∙ ap (bit_xor (bit_xor (moved_up w r 0) (moved_up w s 0))) (gated_linear acc (fed r p) (fed s q) (fed_lt r p) (fed_lt s q))
         ∙ xor_exchange (moved_up w r 0) (moved_up w s 0) (gated (fed r p) acc) (gated (fed s q) acc)
         ∙ sym (ap₂ bit_xor (step_is r p) (step_is s q))

@@ -63,73 +63,73 @@ unfolding rotated
 rotated_lt w n a = low_lt w (a * 2 ^ (n % w) + a / 2 ^ (w - n % w))
 
 module _ (w : ℕ) (wide : 0 < w) where
-  power-lt : (n : ℕ) → power w n < 2 ^ w
-  power-lt n = pow-lt (mod-lt n wide)
+  power_lt : (n : ℕ) → power w n < 2 ^ w
+  power_lt n = pow-lt (mod-lt n wide)
 
-  two-operand-shape : (kind : TwoOperandKind) (r s status : ℕ) → r < 2 ^ w → s < 2 ^ w
+  two_operand_shape : (kind : TwoOperandKind) (r s status : ℕ) → r < 2 ^ w → s < 2 ^ w
       → Shape w status (two_operand_kind kind) (two_operand w kind r s status)
   unfolding two_operand minus
-  two-operand-shape SMinusR r s status h l = summed s (complement w r) 1
-  two-operand-shape SMinusRWithCarry r s status h l = summed s (complement w r) (stored_c status)
-  two-operand-shape RMinusS r s status h l = summed r (complement w s) 1
-  two-operand-shape RMinusSWithCarry r s status h l = summed r (complement w s) (stored_c status)
-  two-operand-shape RPlusS r s status h l = summed r s 0
-  two-operand-shape RPlusSWithCarry r s status h l = summed r s (stored_c status)
-  two-operand-shape And r s status h l = bare (bit_and r s) (and_lt w r s h l)
-  two-operand-shape Nand r s status h l = bare (complement w (bit_and r s)) (complement_lt w (bit_and r s))
-  two-operand-shape Xor r s status h l = bare (bit_xor r s) (xor_lt w r s h l)
-  two-operand-shape Nor r s status h l = bare (complement w (bit_or r s)) (complement_lt w (bit_or r s))
-  two-operand-shape Or r s status h l = bare (bit_or r s) (or_lt w r s h l)
-  two-operand-shape Xnor r s status h l = unsigned (complement w (bit_xor r s)) (complement_lt w (bit_xor r s))
+  two_operand_shape SMinusR r s status h l = summed s (complement w r) 1
+  two_operand_shape SMinusRWithCarry r s status h l = summed s (complement w r) (stored_c status)
+  two_operand_shape RMinusS r s status h l = summed r (complement w s) 1
+  two_operand_shape RMinusSWithCarry r s status h l = summed r (complement w s) (stored_c status)
+  two_operand_shape RPlusS r s status h l = summed r s 0
+  two_operand_shape RPlusSWithCarry r s status h l = summed r s (stored_c status)
+  two_operand_shape And r s status h l = bare (bit_and r s) (and_lt w r s h l)
+  two_operand_shape Nand r s status h l = bare (complement w (bit_and r s)) (complement_lt w (bit_and r s))
+  two_operand_shape Xor r s status h l = bare (bit_xor r s) (xor_lt w r s h l)
+  two_operand_shape Nor r s status h l = bare (complement w (bit_or r s)) (complement_lt w (bit_or r s))
+  two_operand_shape Or r s status h l = bare (bit_or r s) (or_lt w r s h l)
+  two_operand_shape Xnor r s status h l = unsigned (complement w (bit_xor r s)) (complement_lt w (bit_xor r s))
 
-  one-operand-shape : (kind : OneOperandKind) (a status : ℕ) → a < 2 ^ w → Shape w status (one_operand_kind kind) (one_operand w kind a status)
+  one_operand_shape : (kind : OneOperandKind) (a status : ℕ) → a < 2 ^ w → Shape w status (one_operand_kind kind) (one_operand w kind a status)
   unfolding one_operand minus
-  one-operand-shape Move a status h = bare a h
-  one-operand-shape Complement a status h = bare (complement w a) (complement_lt w a)
-  one-operand-shape Increment a status h = summed a 0 1
-  one-operand-shape Negate a status h = summed 0 (complement w a) 1
+  one_operand_shape Move a status h = bare a h
+  one_operand_shape Complement a status h = bare (complement w a) (complement_lt w a)
+  one_operand_shape Increment a status h = summed a 0 1
+  one_operand_shape Negate a status h = summed 0 (complement w a) 1
 
-  bit-shape : (kind : BitKind) (n a status : ℕ) → a < 2 ^ w → Shape w status (bit_kind kind) (bit_operation w kind n a status)
+  bit_shape : (kind : BitKind) (n a status : ℕ) → a < 2 ^ w → Shape w status (bit_kind kind) (bit_operation w kind n a status)
   unfolding bit_operation minus
-  bit-shape SetBit n a status h = bare (bit_or a (power w n)) (or_lt w a (power w n) h (power-lt n))
-  bit-shape ResetBit n a status h = bare (bit_and a (complement w (power w n))) (and_lt w a (complement w (power w n)) h (complement_lt w (power w n)))
-  bit-shape TestBit n a status h = bare (bit_and a (power w n)) (and_lt w a (power w n) h (power-lt n))
-  bit-shape LoadBit n a status h = bare (power w n) (power-lt n)
-  bit-shape LoadBitComplement n a status h = bare (complement w (power w n)) (complement_lt w (power w n))
-  bit-shape AddBit n a status h = summed a (power w n) 0
-  bit-shape SubtractBit n a status h = summed a (complement w (power w n)) 1
+  bit_shape SetBit n a status h = bare (bit_or a (power w n)) (or_lt w a (power w n) h (power_lt n))
+  bit_shape ResetBit n a status h = bare (bit_and a (complement w (power w n))) (and_lt w a (complement w (power w n)) h (complement_lt w (power w n)))
+  bit_shape TestBit n a status h = bare (bit_and a (power w n)) (and_lt w a (power w n) h (power_lt n))
+  bit_shape LoadBit n a status h = bare (power w n) (power_lt n)
+  bit_shape LoadBitComplement n a status h = bare (complement w (power w n)) (complement_lt w (power w n))
+  bit_shape AddBit n a status h = summed a (power w n) 0
+  bit_shape SubtractBit n a status h = summed a (complement w (power w n)) 1
 
-  up-shape : (a coming status : ℕ) → Shape w status Moved (shift_up w a coming status)
+  up_shape : (a coming status : ℕ) → Shape w status Moved (shift_up w a coming status)
   unfolding shift_up
-  up-shape a coming status = moved (bit (w - 1) a) (moved_up w a coming) (moved_up_lt w a coming)
+  up_shape a coming status = moved (bit (w - 1) a) (moved_up w a coming) (moved_up_lt w a coming)
 
-  down-shape : (a coming status : ℕ) → a < 2 ^ w → Shape w status Moved (shift_down w a coming status)
+  down_shape : (a coming status : ℕ) → a < 2 ^ w → Shape w status Moved (shift_down w a coming status)
   unfolding shift_down
-  down-shape a coming status h = moved (a % 2) (moved_down w a coming) (moved_down_lt w a coming h)
+  down_shape a coming status h = moved (a % 2) (moved_down w a coming) (moved_down_lt w a coming h)
 
-  shift-shape : (kind : ShiftKind) (a status : ℕ) → a < 2 ^ w → Shape w status Moved (shift w kind a status)
+  shift_shape : (kind : ShiftKind) (a status : ℕ) → a < 2 ^ w → Shape w status Moved (shift w kind a status)
   unfolding shift
-  shift-shape UpWithZero a status h = up-shape a 0 status
-  shift-shape UpWithOne a status h = up-shape a 1 status
-  shift-shape UpWithLink a status h = up-shape a (stored_link status) status
-  shift-shape DownWithZero a status h = down-shape a 0 status h
-  shift-shape DownWithOne a status h = down-shape a 1 status h
-  shift-shape DownWithLink a status h = down-shape a (stored_link status) status h
-  shift-shape DownWithC a status h = down-shape a (stored_c status) status h
-  shift-shape DownWithNXorOvr a status h = down-shape a (bit_xor (stored_n status) (stored_ovr status)) status h
+  shift_shape UpWithZero a status h = up_shape a 0 status
+  shift_shape UpWithOne a status h = up_shape a 1 status
+  shift_shape UpWithLink a status h = up_shape a (stored_link status) status
+  shift_shape DownWithZero a status h = down_shape a 0 status h
+  shift_shape DownWithOne a status h = down_shape a 1 status h
+  shift_shape DownWithLink a status h = down_shape a (stored_link status) status h
+  shift_shape DownWithC a status h = down_shape a (stored_c status) status h
+  shift_shape DownWithNXorOvr a status h = down_shape a (bit_xor (stored_n status) (stored_ovr status)) status h
 
-  step-shape : (y out acc status : ℕ) → y < 2 ^ w → acc < 2 ^ w → Shape w status Moved (crc_step w y out acc status)
+  step_shape : (y out acc status : ℕ) → y < 2 ^ w → acc < 2 ^ w → Shape w status Moved (crc_step w y out acc status)
   unfolding crc_step
-  step-shape y out acc status h l =
+  step_shape y out acc status h l =
       let f = bit_xor (stored_link status) out in
       moved out (bit_xor y (gated f acc)) (xor_lt w y (gated f acc) h (gated_lt w f acc l))
 
   pub shape : (operation : Operation) (status : ℕ) → Shape w status (kind_of operation) (outcome_of w operation status)
   unfolding outcome_of rotate merge compare prioritize crc_forward crc_reverse
-  shape (TwoOperand kind r s) status = two-operand-shape kind (low w r) (low w s) status (low_lt w r) (low_lt w s)
-  shape (OneOperand kind source) status = one-operand-shape kind (low w source) status (low_lt w source)
-  shape (Bit kind n source) status = bit-shape kind n (low w source) status (low_lt w source)
-  shape (Shift kind source) status = shift-shape kind (low w source) status (low_lt w source)
+  shape (TwoOperand kind r s) status = two_operand_shape kind (low w r) (low w s) status (low_lt w r) (low_lt w s)
+  shape (OneOperand kind source) status = one_operand_shape kind (low w source) status (low_lt w source)
+  shape (Bit kind n source) status = bit_shape kind n (low w source) status (low_lt w source)
+  shape (Shift kind source) status = shift_shape kind (low w source) status (low_lt w source)
   shape (Rotate n source) status = bare (rotated w n (low w source)) (rotated_lt w n (low w source))
   shape (Merge n u r mask) status =
       bare _ (or_lt w _ _ (and_lt w _ _ (rotated_lt w n (low w u)) (low_lt w mask)) (and_lt w _ _ (low_lt w r) (complement_lt w (low w mask))))
@@ -138,8 +138,8 @@ module _ (w : ℕ) (wide : 0 < w) where
   shape (Prioritize source mask) status =
       bare _ (priority_lt w _ (and_lt w _ _ (low_lt w source) (complement_lt w (low w mask))))
   shape (CrcForward register acc) status =
-      step-shape (moved_up w (low w register) 0) (bit (w - 1) (low w register)) (low w acc) status
+      step_shape (moved_up w (low w register) 0) (bit (w - 1) (low w register)) (low w acc) status
       (moved_up_lt w (low w register) 0) (low_lt w acc)
   shape (CrcReverse register acc) status =
-      step-shape (moved_down w (low w register) 0) (low w register % 2) (low w acc) status
+      step_shape (moved_down w (low w register) 0) (low w register % 2) (low w acc) status
       (moved_down_lt w (low w register) 0 (low_lt w register)) (low_lt w acc)

@@ -17,15 +17,15 @@ positive k t e = let h : T (leb 1 0) = rw e at t in absurd h
 -- a number that no check of the list has is not given by it
 other : (k : ℕ) (xs : List Check) → T (without k xs) → (k ≡ 0 → ⊥) → refusal xs ≡ k → ⊥
 other k [] t n e = n (sym e)
-other k (x ∷ xs) t n e = by-test (eqb x.number k) x.holds refl t e (λ t e. other k xs t n e)
+other k (x ∷ xs) t n e = by_test (eqb x.number k) x.holds refl t e (λ t e. other k xs t n e)
   where
-    by-test : (same holds : Bool) → eqb x.number k ≡ same
+    by_test : (same holds : Bool) → eqb x.number k ≡ same
         → T (elim same [ true ↦ false | false ↦ without k xs ])
         → elim holds [ true ↦ x.number | false ↦ refusal xs ] ≡ k
         → (T (without k xs) → refusal xs ≡ k → ⊥) → ⊥
-    by-test true holds q t e rest = absurd t
-    by-test false true q t e rest = never (sym q ∙ eq-eqb x.number k e)
-    by-test false false q t e rest = rest t e
+    by_test true holds q t e rest = absurd t
+    by_test false true q t e rest = never (sym q ∙ eq-eqb x.number k e)
+    by_test false false q t e rest = rest t e
 
 -- where nothing is given, no check held
 pub cleared : (k : ℕ) (b : Bool) (xs : List Check) → (k ≡ 0 → ⊥) → refusal (check k b ∷ xs) ≡ 0 → (b ≡ false) × (refusal xs ≡ 0)
@@ -44,38 +44,38 @@ passed k false xs e = refl
 -- of two lists, one after the other, the first gives its number if it gives any, and else the second does; no check of the first has number 0
 pub ahead : (xs ys : List Check) → (refusal xs ≡ 0 → ⊥) → refusal (xs ++ ys) ≡ refusal xs
 ahead [] ys n = absurd (n refl)
-ahead (x ∷ xs) ys n = by-test x.holds n (ahead xs ys)
+ahead (x ∷ xs) ys n = by_test x.holds n (ahead xs ys)
   where
-    by-test : (holds : Bool) → (refusal (check x.number holds ∷ xs) ≡ 0 → ⊥)
+    by_test : (holds : Bool) → (refusal (check x.number holds ∷ xs) ≡ 0 → ⊥)
         → ((refusal xs ≡ 0 → ⊥) → refusal (xs ++ ys) ≡ refusal xs)
         → refusal (check x.number holds ∷ xs ++ ys) ≡ refusal (check x.number holds ∷ xs)
-    by-test true n rest = refl
-    by-test false n rest = rest n
+    by_test true n rest = refl
+    by_test false n rest = rest n
 
 pub behind : (xs ys : List Check) → T (without 0 xs) → refusal xs ≡ 0 → refusal (xs ++ ys) ≡ refusal ys
 behind [] ys t e = refl
-behind (x ∷ xs) ys t e = by-test (eqb x.number 0) x.holds refl t e (behind xs ys)
+behind (x ∷ xs) ys t e = by_test (eqb x.number 0) x.holds refl t e (behind xs ys)
   where
-    by-test : (same holds : Bool) → eqb x.number 0 ≡ same
+    by_test : (same holds : Bool) → eqb x.number 0 ≡ same
         → T (elim same [ true ↦ false | false ↦ without 0 xs ])
         → refusal (check x.number holds ∷ xs) ≡ 0
         → (T (without 0 xs) → refusal xs ≡ 0 → refusal (xs ++ ys) ≡ refusal ys)
         → refusal (check x.number holds ∷ xs ++ ys) ≡ refusal ys
-    by-test true holds q t e rest = absurd t
-    by-test false true q t e rest = absurd (never (sym q ∙ eq-eqb x.number 0 e))
-    by-test false false q t e rest = rest t e
+    by_test true holds q t e rest = absurd t
+    by_test false true q t e rest = absurd (never (sym q ∙ eq-eqb x.number 0 e))
+    by_test false false q t e rest = rest t e
 
 -- a check of the list, by what stands before it and after it; no check after it has its number
 module _ (k : ℕ) (b : Bool) (after : List Check) (positive : k ≡ 0 → ⊥) (last : T (without k after)) where
   pub given : (before : List Check) → T (clear before) → b ≡ true → refusal (before ++ check k b ∷ after) ≡ k
   given [] t e = rw e
-  given (x ∷ before) t e = by-test x.holds t (λ t. given before t e)
+  given (x ∷ before) t e = by_test x.holds t (λ t. given before t e)
     where
-      by-test : (holds : Bool) → T (elim holds [ true ↦ false | false ↦ clear before ])
+      by_test : (holds : Bool) → T (elim holds [ true ↦ false | false ↦ clear before ])
           → (T (clear before) → refusal (before ++ check k b ∷ after) ≡ k)
           → elim holds [ true ↦ x.number | false ↦ refusal (before ++ check k b ∷ after) ] ≡ k
-      by-test true t rest = absurd t
-      by-test false t rest = rest t
+      by_test true t rest = absurd t
+      by_test false t rest = rest t
 
   here : (holds : Bool) → elim holds [ true ↦ k | false ↦ refusal after ] ≡ k → holds ≡ true
   here true e = refl
@@ -83,16 +83,16 @@ module _ (k : ℕ) (b : Bool) (after : List Check) (positive : k ≡ 0 → ⊥) 
 
   pub only : (before : List Check) → T (without k before) → refusal (before ++ check k b ∷ after) ≡ k → T (clear before) × (b ≡ true)
   only [] t e = (tt, here b e)
-  only (x ∷ before) t e = by-test (eqb x.number k) x.holds refl t e (λ t e. only before t e)
+  only (x ∷ before) t e = by_test (eqb x.number k) x.holds refl t e (λ t e. only before t e)
     where
-      by-test : (same holds : Bool) → eqb x.number k ≡ same
+      by_test : (same holds : Bool) → eqb x.number k ≡ same
           → T (elim same [ true ↦ false | false ↦ without k before ])
           → elim holds [ true ↦ x.number | false ↦ refusal (before ++ check k b ∷ after) ] ≡ k
           → (T (without k before) → refusal (before ++ check k b ∷ after) ≡ k → T (clear before) × (b ≡ true))
           → T (elim holds [ true ↦ false | false ↦ clear before ]) × (b ≡ true)
-      by-test true holds q t e rest = absurd t
-      by-test false true q t e rest = absurd (never (sym q ∙ eq-eqb x.number k e))
-      by-test false false q t e rest = rest t e
+      by_test true holds q t e rest = absurd t
+      by_test false true q t e rest = absurd (never (sym q ∙ eq-eqb x.number k e))
+      by_test false false q t e rest = rest t e
 
   -- number k is given exactly when its condition holds and none before it does
   pub exactly : (before : List Check) → T (without k before) → (refusal (before ++ check k b ∷ after) ≡ k) ↔ (T (clear before) × (b ≡ true))

@@ -12,16 +12,16 @@ use Rattle.choice.proofs.Spans.{span, span_at}
 -- what Along says at each number, at x
 module _ {A : Type 0} (test : A → A → Bool) (sound : (r y : A) → test r y ≡ true → r ≡ y) where
   last : (n : ℕ) (f : ℕ → A) (x : ℕ) (r : A) → Unless (test r (f n)) x n → x < suc n → (x < n → r ≡ f x) → r ≡ f x
-  last n f x r u h before = by-test (test r (f n)) (eqb x n) refl refl u
+  last n f x r u h before = by_test (test r (f n)) (eqb x n) refl refl u
     where
-      by-test : (b d : Bool) → test r (f n) ≡ b → eqb x n ≡ d → Unless b x n → r ≡ f x
-      by-test true true q p u = sound r (f n) q ∙ sym (ap f (eqb-true x n p))
-      by-test true false q p u = before (omega (arith, eqb-false x n p))
-      by-test false d q p u = before (omega (arith, u))
+      by_test : (b d : Bool) → test r (f n) ≡ b → eqb x n ≡ d → Unless b x n → r ≡ f x
+      by_test true true q p u = sound r (f n) q ∙ sym (ap f (eqb-true x n p))
+      by_test true false q p u = before (omega (arith, eqb-false x n p))
+      by_test false d q p u = before (omega (arith, u))
 
-  pub along-by : (n : ℕ) (f : ℕ → A) (x : ℕ) (r : A) → Along test n f x r → x < n → r ≡ f x
-  along-by zero f x r a h = absurd (not-suc-le-zero h)
-  along-by (suc n) f x r (a, u) h = last n f x r u h (along-by n f x r a)
+  pub along_by : (n : ℕ) (f : ℕ → A) (x : ℕ) (r : A) → Along test n f x r → x < n → r ≡ f x
+  along_by zero f x r a h = absurd (not-suc-le-zero h)
+  along_by (suc n) f x r (a, u) h = last n f x r u h (along_by n f x r a)
 
 pub same_eq : (b d : Bool) → same b d ≡ true → b ≡ d
 same_eq true true e = refl
@@ -30,10 +30,10 @@ same_eq false true e = e
 same_eq false false e = refl
 
 pub along : (n : ℕ) (f : ℕ → ℕ) (x r : ℕ) → Along eqb n f x r → x < n → r ≡ f x
-along = along-by eqb eqb-true
+along = along_by eqb eqb-true
 
 pub along_test : (n : ℕ) (f : ℕ → Bool) (x : ℕ) (r : Bool) → Along same n f x r → x < n → r ≡ f x
-along_test = along-by same same_eq
+along_test = along_by same same_eq
 
 -- z, y and x are in the stretches of zn numbers from zlo on, of yn from ylo on, and of xn from xlo on
 abbrev pub Inside : ℕ → ℕ → ℕ → ℕ → ℕ → ℕ → ℕ → ℕ → ℕ → Type 0

@@ -30,11 +30,11 @@ span lo (suc n) f = elim (f lo) [ true ↦ span (suc lo) n f | false ↦ false ]
 
 -- the first of a stretch, or one of the rest
 split : (lo x : ℕ) (P : Type 0) → lo ≤ x → (lo ≡ x → P) → (suc lo ≤ x → P) → P
-split lo x P h e l = by-test (eqb lo x) refl
+split lo x P h e l = by_test (eqb lo x) refl
   where
-    by-test : (b : Bool) → eqb lo x ≡ b → P
-    by-test true q = e (eqb-true lo x q)
-    by-test false q = l (omega (arith, eqb-false lo x q))
+    by_test : (b : Bool) → eqb lo x ≡ b → P
+    by_test true q = e (eqb-true lo x q)
+    by_test false q = l (omega (arith, eqb-false lo x q))
 
 pub span_at : (f : ℕ → Bool) (n lo x : ℕ) → T (span lo n f) → lo ≤ x → x < lo + n → T (f x)
 span_at f zero lo x t h k = absurd (omega arith)

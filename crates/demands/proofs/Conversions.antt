@@ -6,7 +6,7 @@ use lib.ListN.{length, take, drop}
 use Rattle.isa.specs.declared.Named.{Named}
 use Rattle.isa.specs.declared.Decoded.{Decoded}
 use Rattle.isa.specs.declared.Encoded.{Encoded}
-use Rattle.isa.proofs.Laws.{encode-decode, decode-encode, decode_unique, encode_unique}
+use Rattle.isa.proofs.Laws.{encode_decode, decode_encode, decode_unique, encode_unique}
 use Rattle.demands.specs.Calls.{Filling, Decodes, Encodes, ReadsTrace, WritesTrace}
 use Rattle.trace.specs.declared.Filled.{Filled}
 use Rattle.trace.proofs.Trips.{written_read, read_written}
@@ -14,10 +14,10 @@ use Rattle.trace.specs.Layout.{Bytes}
 
 -- a 16-bit word that is decoded encodes to itself, and an instruction that is encoded decodes to itself
 pub word_there_and_back : (w : ℕ) → w < 65536 → (n : Named) → Decodes w (Decoded.Accepted n) → (r : Encoded) → Encodes n r → r ≡ Encoded.Accepted w
-word_there_and_back w h n d r e = encode_unique n r (Encoded.Accepted w) e (sym (encode-decode w h n (sym d)))
+word_there_and_back w h n d r e = encode_unique n r (Encoded.Accepted w) e (sym (encode_decode w h n (sym d)))
 
 pub name_there_and_back : (n : Named) (w : ℕ) → Encodes n (Encoded.Accepted w) → (r : Decoded) → Decodes w r → r ≡ Decoded.Accepted n
-name_there_and_back n w e r d = decode_unique w r (Decoded.Accepted n) d (sym (decode-encode n w (sym e)))
+name_there_and_back n w e r d = decode_unique w r (Decoded.Accepted n) d (sym (decode_encode n w (sym e)))
 
 -- cycle words that are written, and the bytes filled then read: all the words, if there is room for them
 pub cycles_there_and_back : (words lent : List ℕ) (n : ℕ) (o : Filling Filled) → WritesTrace (words, lent) o → o.answer ≡ Filled.Accepted n

@@ -9,7 +9,7 @@ use Rattle.alu.proofs.Unique.{perform_unique, write_back_unique}
 use Rattle.isa.proofs.Laws.{decode_unique, look_up_unique, encode_unique, takes_immediate_unique, number_of_unique, numbered_row_unique}
 use Rattle.plan.proofs.Laws.{plan_for_unique, names_immediate_unique}
 use Rattle.machine.proofs.Laws.{cycle_unique, may_start_unique}
-use Rattle.machine.proofs.Steps.{step-unique, core_of_unique, machine_from_unique}
+use Rattle.machine.proofs.Steps.{step_unique, core_of_unique, machine_from_unique}
 use Rattle.run.specs.Runs.{run_of, zero_machine, full_budget}
 use Rattle.run.proofs.Laws.{run_unique}
 use Rattle.demands.specs.Calls.{Filling, Determined, Starts, TakesText, Performs, WritesBack, Decodes, LooksUp, Encodes, TakesImmediate, NumbersFamily, GivesRow, Plans, NamesImmediate, Cycles, StepsMachine, TakesApart, PutsTogether, MayStart, Runs, RunsFromZero, Checks, ReadsTrace, WritesTrace, Keeps, MakesLine, CycleLines, StateLines, RegisterLines, WordRefusedLines, LastLines, PageLines, WordsLines, FaultLines, RemarkLines, FillingBoth, ShowsRun, ShowsWords, TakesPieces, EndsTexts, PrintsWord, ReadsWord, PrintsData, ReadsData, ShowsList, AnswersLines}
@@ -97,7 +97,7 @@ every_call = record {
   plan_for = plan_for_unique;
   names_immediate = names_immediate_unique;
   cycle = λ i x y f g. cycle_unique i.0 i.1 x y f g;
-  step = λ i x y f g. same_filling x y (step-unique i.0 i.1 i.2 x.answer y.answer x.after y.after f g);
+  step = λ i x y f g. same_filling x y (step_unique i.0 i.1 i.2 x.answer y.answer x.after y.after f g);
   core_of_lem = core_of_unique;
   machine_from_lem = λ i x y f g. machine_from_unique i.0 i.1 x y f g;
   may_start_lem = may_start_unique;

@@ -1,5 +1,5 @@
--- Demand 3, `byte-isolation`, at the end: whatever satisfies the statement of `run`, two runs that differ only in upper bytes give the same
--- reports, ending and counts, end with the same low bytes, and each keeps the upper bytes that it started with. Before it `stricter-suffices`.
+-- Demand 3, `byte_isolation`, at the end: whatever satisfies the statement of `run`, two runs that differ only in upper bytes give the same
+-- reports, ending and counts, end with the same low bytes, and each keeps the upper bytes that it started with. Before it `stricter_suffices`.
 use mathlib.Core.Path.{◌≡◌, refl, sym, ap, ap₂, ◌∙◌, subst, subst₂, subst⁻¹}
 use mathlib.Core.Bool.{Bool, true, false}
 use mathlib.Core.List.{List, [], ◌∷◌, ◌++◌, map}
@@ -33,7 +33,7 @@ use Rattle.run.proofs.Starting.{started, refused_whole}
 use Rattle.run.proofs.Courses.{steps_le, reports_length}
 use Rattle.run.proofs.Laws.{ending_one}
 use Rattle.demands.specs.Isolation.{SameLowBytes, ByteMark, CyclesAlike, waiting_before, Reached, Premises, StricterPremises, Isolated}
-use Rattle.demands.proofs.Turns.{TurnsAlike, turns-alike, unchanged}
+use Rattle.demands.proofs.Turns.{TurnsAlike, turns_alike, unchanged}
 
 kept_after : (a b c : Registers) → UpperBytesKept a b → UpperBytesKept b c → UpperBytesKept a c
 kept_after a b c p q = record { ram = q.ram ∙ p.ram; acc = q.acc ∙ p.acc }
@@ -78,20 +78,20 @@ module _ (m n : Machine) (c d : Course) (a : CoursesAlike m n c d) where
   same_length : length c.steps ≡ length d.steps
   same_length = length_told c.steps ∙ ap length a.reports ∙ sym (length_told d.steps)
 
-  same-reports : reports_of c.steps ≡ reports_of d.steps
-  same-reports = words_told c.steps ∙ ap words_in a.reports ∙ sym (words_told d.steps)
+  same_reports : reports_of c.steps ≡ reports_of d.steps
+  same_reports = words_told c.steps ∙ ap words_in a.reports ∙ sym (words_told d.steps)
 
-  same-completed : completed_in c.steps ≡ completed_in d.steps
-  same-completed = completions_told c.steps ∙ ap completions_in a.reports ∙ sym (completions_told d.steps)
+  same_completed : completed_in c.steps ≡ completed_in d.steps
+  same_completed = completions_told c.steps ∙ ap completions_in a.reports ∙ sym (completions_told d.steps)
 
-  same-ending : placed c.close (length c.steps) ≡ placed d.close (length d.steps)
-  same-ending = ap₂ placed a.close same_length
+  same_ending : placed c.close (length c.steps) ≡ placed d.close (length d.steps)
+  same_ending = ap₂ placed a.close same_length
 
 -- a cycle whose checks are clear is a step
 turn_steps : (m : Machine) (c : Words) (rest : Course) → refusal (checks_of m.registers.waiting c) ≡ 0
     → 0 < length (turn_then (cycle_of m c).answer (cycle_of m c).machine rest).steps
 unfolding cycle_of judgement_of
-turn_steps m c rest e = by-test (eqb (refusal (checks_of m.registers.waiting c)) 0) (eq-eqb (refusal (checks_of m.registers.waiting c)) 0 e) m.registers.waiting
+turn_steps m c rest e = by_test (eqb (refusal (checks_of m.registers.waiting c)) 0) (eq-eqb (refusal (checks_of m.registers.waiting c)) 0 e) m.registers.waiting
   where
     r : Registers
     r = latched m.registers c.input c.pins
@@ -107,9 +107,9 @@ turn_steps m c rest e = by-test (eqb (refusal (checks_of m.registers.waiting c))
     accepts Nothing = begun (takes_immediate c.lines)
     accepts (Held w) = omega arith
 
-    by-test : (t : Bool) → t ≡ true → (w : Waiting) → 0 < steps (turn_of (pick t (accepted_as w c) (Refuse (refusal (checks_of m.registers.waiting c)))) m r c)
-    by-test true q w = accepts w
-    by-test false q w = absurd (never q)
+    by_test : (t : Bool) → t ≡ true → (w : Waiting) → 0 < steps (turn_of (pick t (accepted_as w c) (Refuse (refusal (checks_of m.registers.waiting c)))) m r c)
+    by_test true q w = accepts w
+    by_test false q w = absurd (never q)
 
 -- what is asked of n cycles from cycle i on, of which the first run makes the course c
 module _ (v w : List ℕ) where
@@ -122,12 +122,12 @@ module _ (v w : List ℕ) where
   shift : (i k : ℕ) → i + suc k ≡ i + 1 + k
   shift i k = omega arith
 
-  cycles-next : (m : Machine) (s : Step) (c : Course) (i n budget : ℕ) → CyclesFrom m (step_then s c) i (suc n) (suc budget) → CyclesFrom s.machine c (i + 1) n budget
-  cycles-next m s c i n budget f k p q h =
+  cycles_next : (m : Machine) (s : Step) (c : Course) (i n budget : ℕ) → CyclesFrom m (step_then s c) i (suc n) (suc budget) → CyclesFrom s.machine c (i + 1) n budget
+  cycles_next m s c i n budget f k p q h =
       subst (λ (j : ℕ). CyclesAlike (waiting_before s.machine c k) (cycle_at v j) (cycle_at w j)) (shift i k) (f (suc k) (omega arith) (omega arith) (omega arith))
 
-  marks-next : (m : Machine) (s : Step) (c : Course) (i : ℕ) → MarksFrom m (step_then s c) i → MarksFrom s.machine c (i + 1)
-  marks-next m s c i f k h =
+  marks_next : (m : Machine) (s : Step) (c : Course) (i : ℕ) → MarksFrom m (step_then s c) i → MarksFrom s.machine c (i + 1)
+  marks_next m s c i f k h =
       subst (λ (j : ℕ). ByteMark (word_about (waiting_before s.machine c k) (cycle_at v j).lines)) (shift i k) (f (suc k) (omega arith))
 
   -- a cycle and the rest of both runs
@@ -137,10 +137,10 @@ module _ (v w : List ℕ) where
     abbrev answered : Option Report → Machine → Course → Course
     answered x next r = turn_then (record { number = t.answer.number; value = x }) next r
 
-    after-alike : (x : Option Report) → CyclesFrom m (answered x t.machine c) i (suc left) (suc budget) → MarksFrom m (answered x t.machine c) i
+    after_alike : (x : Option Report) → CyclesFrom m (answered x t.machine c) i (suc left) (suc budget) → MarksFrom m (answered x t.machine c) i
         → CoursesAlike m n (answered x t.machine c) (answered x u.machine d)
-    after-alike (some r) f g =
-        let o = rest (cycles-next m (record { machine = t.machine; report = r }) c i left budget f) (marks-next m (record { machine = t.machine; report = r }) c i g) in
+    after_alike (some r) f g =
+        let o = rest (cycles_next m (record { machine = t.machine; report = r }) c i left budget f) (marks_next m (record { machine = t.machine; report = r }) c i g) in
         record {
           reports = ap (λ (l : List Report). r ∷ l) o.reports;
           close = o.close;
@@ -148,36 +148,36 @@ module _ (v w : List ℕ) where
           first = kept_after m.registers t.machine.registers (machine_after t.machine c.steps).registers a.first o.first;
           second = kept_after n.registers u.machine.registers (machine_after u.machine d.steps).registers a.second o.second;
         }
-    after-alike none f g = closing_alike m n (refused t.answer.number) s
+    after_alike none f g = closing_alike m n (refused t.answer.number) s
 
-  runs-alike : (m n : Machine) (left i budget : ℕ) → SameLowBytes m.registers n.registers
+  runs_alike : (m n : Machine) (left i budget : ℕ) → SameLowBytes m.registers n.registers
       → CyclesFrom m (run_from m budget (cycles_from v i left)) i left budget → MarksFrom m (run_from m budget (cycles_from v i left)) i
       → CoursesAlike m n (run_from m budget (cycles_from v i left)) (run_from n budget (cycles_from w i left))
   unfolding run_from
-  runs-alike m n zero i budget s f g = closing_alike m n (accepted done) s
-  runs-alike m n (suc left) i zero s f g = closing_alike m n (accepted stopped) s
-  runs-alike m n (suc left) i (suc budget) s f g =
+  runs_alike m n zero i budget s f g = closing_alike m n (accepted done) s
+  runs_alike m n (suc left) i zero s f g = closing_alike m n (accepted stopped) s
+  runs_alike m n (suc left) i (suc budget) s f g =
       let t = cycle_of m (cycle_at v i) in
       let u = cycle_of n (cycle_at w i) in
       let c = run_from t.machine budget (cycles_from v (i + 1) left) in
       let d = run_from u.machine budget (cycles_from w (i + 1) left) in
       let here : CyclesAlike m.registers.waiting (cycle_at v i) (cycle_at w i) =
       subst (λ (j : ℕ). CyclesAlike m.registers.waiting (cycle_at v j) (cycle_at w j)) (add-zero i) (f 0 (omega arith) (omega arith) (omega arith)) in
-      let a : TurnsAlike m.registers n.registers t u = turns-alike m n s (cycle_at v i) (cycle_at w i) here
+      let a : TurnsAlike m.registers n.registers t u = turns_alike m n s (cycle_at v i) (cycle_at w i) here
       (λ e. subst (λ (j : ℕ). ByteMark (word_about m.registers.waiting (cycle_at v j).lines)) (add-zero i) (g 0 (turn_steps m (cycle_at v i) c e))) in
       subst (λ (x : Tells Report). CoursesAlike m n (turn_then t.answer t.machine c) (turn_then x u.machine d)) a.answer
-      (after-alike m n t u i left budget c d a s (λ p q. runs-alike t.machine u.machine left (i + 1) budget a.ends p q) t.answer.value f g)
+      (after_alike m n t u i left budget c d a s (λ p q. runs_alike t.machine u.machine left (i + 1) budget a.ends p q) t.answer.value f g)
 
 module _ (m n : Machine) (v w : List ℕ) (budget room : ℕ) where
-  courses-alike : Premises m n v w budget room → CoursesAlike m n (run_of m v budget room) (run_of n w budget room)
-  courses-alike p = by-test (eqb (start_refusal m v room) 0) refl
+  courses_alike : Premises m n v w budget room → CoursesAlike m n (run_of m v budget room) (run_of n w budget room)
+  courses_alike p = by_test (eqb (start_refusal m v room) 0) refl
     where
       same_number : start_refusal m v room ≡ start_refusal n w room
       same_number = ap₂ (λ (x : Waiting) (k : ℕ). refusal (start_checks x k room)) p.starts.waiting p.number
 
-      at-start : (c : Course) → run_of m v budget room ≡ c → start_refusal m v room ≡ 0
+      at_start_lem : (c : Course) → run_of m v budget room ≡ c → start_refusal m v room ≡ 0
           → CyclesFrom v w m c 0 (cycles_in (length v)) budget × MarksFrom v w m c 0
-      at-start c e z = (
+      at_start_lem c e z = (
         (λ k x y h. subst (λ (j : ℕ). CyclesAlike (waiting_before m c k) (cycle_at v j) (cycle_at w j)) (sym (zero-add k))
             (subst (λ (d : Course). CyclesAlike (waiting_before m d k) (cycle_at v k) (cycle_at w k)) e
             (p.cycles k (record { started = z; given = x; paid = y; next = subst⁻¹ (λ (d : Course). k ≤ length d.steps) e h })))),
@@ -186,35 +186,35 @@ module _ (m n : Machine) (v w : List ℕ) (budget room : ℕ) where
             (p.marks k (subst⁻¹ (λ (d : Course). k < length d.steps) e h)))),
       )
 
-      by-test : (b : Bool) → eqb (start_refusal m v room) 0 ≡ b → CoursesAlike m n (run_of m v budget room) (run_of n w budget room)
-      by-test true q =
+      by_test : (b : Bool) → eqb (start_refusal m v room) 0 ≡ b → CoursesAlike m n (run_of m v budget room) (run_of n w budget room)
+      by_test true q =
           let z : start_refusal m v room ≡ 0 = eqb-true (start_refusal m v room) 0 q in
           let c : run_of m v budget room ≡ run_from m budget (cycles_of v) = started m v budget room z in
           let d : run_of n w budget room ≡ run_from n budget (cycles_from w 0 (cycles_in (length v))) =
           started n w budget room (sym same_number ∙ z) ∙ ap (λ (k : ℕ). run_from n budget (cycles_from w 0 (cycles_in k))) (sym p.number) in
-          let a = at-start (run_from m budget (cycles_of v)) c z in
-          subst₂ (CoursesAlike m n) (sym c) (sym d) (runs-alike v w m n (cycles_in (length v)) 0 budget p.starts a.0 a.1)
-      by-test false q =
+          let a = at_start_lem (run_from m budget (cycles_of v)) c z in
+          subst₂ (CoursesAlike m n) (sym c) (sym d) (runs_alike v w m n (cycles_in (length v)) 0 budget p.starts a.0 a.1)
+      by_test false q =
           subst₂ (CoursesAlike m n) (sym (refused_whole m v budget room q))
           (sym (refused_whole n w budget room (sym (ap (λ (k : ℕ). eqb k 0) same_number) ∙ q) ∙ ap (λ (k : ℕ). closing (refused k)) (sym same_number)))
           (closing_alike m n (refused (start_refusal m v room)) p.starts)
 
   -- the stricter reading asks for more
   reached : (i : ℕ) → i < length (run_of m v budget room).steps → Reached m v budget room i
-  reached i h = by-test (eqb (start_refusal m v room) 0) refl
+  reached i h = by_test (eqb (start_refusal m v room) 0) refl
     where
-      by-test : (b : Bool) → eqb (start_refusal m v room) 0 ≡ b → Reached m v budget room i
-      by-test true q =
+      by_test : (b : Bool) → eqb (start_refusal m v room) 0 ≡ b → Reached m v budget room i
+      by_test true q =
           let z : start_refusal m v room ≡ 0 = eqb-true (start_refusal m v room) 0 q in
           let k : i < length (run_from m budget (cycles_of v)).steps = subst (λ (d : Course). i < length d.steps) (started m v budget room z) h in
           let l = steps_le m budget v 0 (cycles_in (length v)) in
           record { started = z; given = omega (arith, k, l.0); paid = omega (arith, k, l.1); next = omega (arith, h) }
-      by-test false q =
+      by_test false q =
           let k : i < 0 = subst (λ (d : Course). i < length d.steps) (refused_whole m v budget room q) h in
           absurd (omega (arith, k))
 
-  pub stricter-suffices : StricterPremises m n v w budget room → Premises m n v w budget room
-  stricter-suffices p = record {
+  pub stricter_suffices : StricterPremises m n v w budget room → Premises m n v w budget room
+  stricter_suffices p = record {
     number = p.number;
     starts = p.starts;
     cycles = λ i r. p.cycles i r.given;
@@ -231,11 +231,11 @@ module _ (m n : Machine) (v w : List ℕ) (budget room : ℕ) where
     d = run_of n w budget room
 
     alike : CoursesAlike m n c d
-    alike = courses-alike p
+    alike = courses_alike p
 
     -- the filled part of the lent reports
-    filled-by : (m : Machine) (c : Course) (r : Ran) (before after : List ℕ) → Gives m c r before after → take (words_per_report * r.accepted) after ≡ reports_of c.steps
-    filled-by m c r before after g =
+    filled_by : (m : Machine) (c : Course) (r : Ran) (before after : List ℕ) → Gives m c r before after → take (words_per_report * r.accepted) after ≡ reports_of c.steps
+    filled_by m c r before after g =
         let size : length (reports_of c.steps) ≡ words_per_report * r.accepted =
         reports_length c.steps ∙ ap (λ (x : Summary). words_per_report * x.accepted) (sym g.answer) in
         ap (take (words_per_report * r.accepted)) g.written
@@ -245,12 +245,12 @@ module _ (m n : Machine) (v w : List ℕ) (budget room : ℕ) where
     both : {A : Type 0} (f : Summary → A) → f (summary_of m c) ≡ f (summary_of n d) → f (ran_tells r) ≡ f (ran_tells s)
     both f e = ap f g.answer ∙ e ∙ sym (ap f h.answer)
 
-    pub byte-isolation : Isolated m n r s after after'
-    byte-isolation = record {
-      filled = filled-by m c r before after g ∙ same-reports m n c d alike ∙ sym (filled-by n d s before' after' h);
-      ending = ending_one r.ending s.ending (both (λ (x : Summary). x.ending) (same-ending m n c d alike));
+    pub byte_isolation : Isolated m n r s after after'
+    byte_isolation = record {
+      filled = filled_by m c r before after g ∙ same_reports m n c d alike ∙ sym (filled_by n d s before' after' h);
+      ending = ending_one r.ending s.ending (both (λ (x : Summary). x.ending) (same_ending m n c d alike));
       accepted = both (λ (x : Summary). x.accepted) (same_length m n c d alike);
-      completed = both (λ (x : Summary). x.completed) (same-completed m n c d alike);
+      completed = both (λ (x : Summary). x.completed) (same_completed m n c d alike);
       ends = subst₂ (λ (x y : Summary). SameLowBytes x.machine.registers y.machine.registers) (sym g.answer) (sym h.answer) alike.ends;
       first = subst⁻¹ (λ (x : Summary). UpperBytesKept m.registers x.machine.registers) g.answer alike.first;
       second = subst⁻¹ (λ (x : Summary). UpperBytesKept n.registers x.machine.registers) h.answer alike.second;

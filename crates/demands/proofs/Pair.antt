@@ -25,7 +25,7 @@ use Rattle.run.specs.Courses.{Course, run_from, reports_of}
 use Rattle.run.specs.declared.Ran.{Ran}
 use Rattle.run.specs.Runs.{run_of, summary_of, Gives}
 use Rattle.demands.specs.Isolation.{ByteMark, CyclesAlike, waiting_before, Reached, Premises, Isolated}
-use Rattle.demands.proofs.Isolation.{byte-isolation}
+use Rattle.demands.proofs.Isolation.{byte_isolation}
 
 -- R1 and ACC are given, the rest is 0
 abbrev from : ℕ → ℕ → Machine
@@ -78,7 +78,7 @@ premises_met = record {
 
 -- so demand 3 holds of any answers to them
 pub pair_isolated : (r s : Ran) (before before' after after' : List ℕ) → Gives here ours r before after → Gives there theirs s before' after' → Isolated here there r s after after'
-pair_isolated = byte-isolation here there (words 0x33AA 0x7140) (words 0x77AA 0x1240) 2 8 premises_met
+pair_isolated = byte_isolation here there (words 0x33AA 0x7140) (words 0x77AA 0x1240) 2 8 premises_met
 
 -- and it says something: both end in the same reports and the same low byte D0 of R1, below different upper bytes that stayed. A borrow
 -- would have left 11D0 and 55D0

@@ -1,8 +1,8 @@
 -- Demand 1, second part: the numbers of the answers, each exactly when, and what a refusal leaves as it was. Reader and writer first; then
--- `run-refused-exactly` (1 to 4), `cycle-refused-exactly` (5 to 10), `run-numbers` and `started-never-four`; then one cycle, one step, words and named
+-- `run_refused_exactly` (1 to 4), `cycle_refused_exactly` (5 to 10), `run_numbers` and `started_never_four`; then one cycle, one step, words and named
 -- instructions.
--- Further laws, in this order: `read-refused-exactly`, `read-refused-leaves`, `write-refused-exactly`, `write-refused-leaves`,
--- `cycle_refused_leaves`, `one_cycle_refused_exactly`, `step-refused-exactly`, `step-refused-leaves`, `decode_refused_exactly`,
+-- Further laws, in this order: `read_refused_exactly`, `read_refused_leaves`, `write_refused_exactly`, `write_refused_leaves`,
+-- `cycle_refused_leaves`, `one_cycle_refused_exactly`, `step_refused_exactly`, `step_refused_leaves`, `decode_refused_exactly`,
 -- `encode_refused_exactly`.
 use mathlib.Core.Path.{◌≡◌, refl, sym, ap, ap₂, subst, ◌∙◌}
 use mathlib.Core.Bool.{Bool, true, false, not}
@@ -15,7 +15,7 @@ use lib.ListN.{length}
 use borrow.Author.Tests.{eqb-true, eqb-false, ne_eqb, ltb-true, ltb-false}
 use Rattle.choice.specs.Checks.{check, refusal}
 use Rattle.choice.specs.Tells.{Tells, refused, tells, Placed, refused_at}
-use Rattle.choice.proofs.Tells.{refused-one, refused-at-one, tells-refused, told-number}
+use Rattle.choice.proofs.Tells.{refused_one, refused_at_one, tells_refused, told_number}
 use Rattle.choice.proofs.Picks.{unpicked}
 use Rattle.isa.specs.declared.Named.{Named}
 use Rattle.isa.specs.declared.Decoded.{Decoded}
@@ -33,16 +33,16 @@ use Rattle.machine.specs.Judging.{Judgement, Refuse, checks_of, accepted_as, jud
 use Rattle.machine.specs.Settling.{latched}
 use Rattle.machine.specs.Stepping.{machine_from, core_of, report_in}
 use Rattle.machine.specs.Cycles.{Turned, answer_tells, refused_turn, turn_of, cycle_of}
-use Rattle.machine.proofs.Exactly.{cycle-number, started_range}
-use Rattle.machine.proofs.Laws.{refused-unchanged, refused-numbered, cycle_unique}
+use Rattle.machine.proofs.Exactly.{cycle_number, started_range}
+use Rattle.machine.proofs.Laws.{refused_unchanged, refused_numbered, cycle_unique}
 use Rattle.run.specs.declared.Ending.{Ending}
 use Rattle.run.specs.declared.Ending.TheVariants.{Done, Stopped}
 use Rattle.run.specs.declared.Ran.{Ran}
 use Rattle.run.specs.Splitting.{cycle_at, words_per_cycle, cycles_in, words_per_report}
 use Rattle.run.specs.Runs.{most_cycles, ending_tells}
-use Rattle.run.proofs.Starting.{may-begin}
+use Rattle.run.proofs.Starting.{may_begin}
 use Rattle.run.specs.Following.{machine_at, turn_at, Ends, CycleRefused}
-use Rattle.run.proofs.Laws.{may-go-on}
+use Rattle.run.proofs.Laws.{may_go_on}
 use Rattle.demands.specs.Calls.{Filling, Decodes, Encodes, RunInput, whole_number, Runs, Cycles, ReadsTrace, WritesTrace, StepsMachine}
 use Rattle.trace.specs.declared.Filled.{Filled}
 use Rattle.trace.specs.Layout.{words_per_record}
@@ -55,32 +55,32 @@ use Rattle.demands.proofs.Following.{follows, gives_back}
 
 -- reader and writer: an answer is a refusal exactly when the definition's is, and lent output is then as it was
 module _ (answer : Placed ℕ) (made before : List ℕ) (r : Filled) (after : List ℕ) (f : Fills answer made r before after) (k i : ℕ) where
-  refusal-told : (r ≡ Filled.Refused k i) ↔ (answer ≡ refused_at k i)
-  refusal-told = ((λ e. sym f.told ∙ ap filled_tells e), (λ e. filled_one r (Filled.Refused k i) (f.told ∙ e)))
+  refusal_told : (r ≡ Filled.Refused k i) ↔ (answer ≡ refused_at k i)
+  refusal_told = ((λ e. sym f.told ∙ ap filled_tells e), (λ e. filled_one r (Filled.Refused k i) (f.told ∙ e)))
 
   untouched : r ≡ Filled.Refused k i → after ≡ before
-  untouched e = f.written ∙ ap (λ (a : Placed ℕ). leaves a made before) (refusal-told.0 e)
+  untouched e = f.written ∙ ap (λ (a : Placed ℕ). leaves a made before) (refusal_told.0 e)
 
 both_ways : {A B C : Type 0} → A ↔ B → B ↔ C → A ↔ C
 both_ways f g = ((λ a. g.0 (f.0 a)), (λ c. f.1 (g.1 c)))
 
 -- `read`: 11, 2, 12 to 14, 2, 3
 module _ (i : List ℕ × List ℕ) (o : Filling Filled) (p : ReadsTrace i o) (k j : ℕ) (nonzero : k ≡ 0 → ⊥) where
-  pub read-refused-exactly : (o.answer ≡ Filled.Refused k j) ↔ Refuses words_per_record i.0 (length i.1) k j
-  read-refused-exactly =
-      both_ways (refusal-told _ _ i.1 o.answer o.after p k j) (read-refuses words_per_record i.0 (length i.1) k j nonzero)
+  pub read_refused_exactly : (o.answer ≡ Filled.Refused k j) ↔ Refuses words_per_record i.0 (length i.1) k j
+  read_refused_exactly =
+      both_ways (refusal_told _ _ i.1 o.answer o.after p k j) (read-refuses words_per_record i.0 (length i.1) k j nonzero)
 
-  pub read-refused-leaves : o.answer ≡ Filled.Refused k j → o.after ≡ i.1
-  read-refused-leaves e = untouched _ _ i.1 o.answer o.after p k j e
+  pub read_refused_leaves : o.answer ≡ Filled.Refused k j → o.after ≡ i.1
+  read_refused_leaves e = untouched _ _ i.1 o.answer o.after p k j e
 
 -- `write`: 1, 2, 3
 module _ (i : List ℕ × List ℕ) (o : Filling Filled) (p : WritesTrace i o) (k j : ℕ) (nonzero : k ≡ 0 → ⊥) where
-  pub write-refused-exactly : (o.answer ≡ Filled.Refused k j) ↔ ((refusal (write_checks words_per_record (length i.0) (length i.1)) ≡ k) × (j ≡ 0))
-  write-refused-exactly =
-      both_ways (refusal-told _ _ i.1 o.answer o.after p k j) (write_refuses words_per_record (length i.0) (length i.1) k j nonzero)
+  pub write_refused_exactly : (o.answer ≡ Filled.Refused k j) ↔ ((refusal (write_checks words_per_record (length i.0) (length i.1)) ≡ k) × (j ≡ 0))
+  write_refused_exactly =
+      both_ways (refusal_told _ _ i.1 o.answer o.after p k j) (write_refuses words_per_record (length i.0) (length i.1) k j nonzero)
 
-  pub write-refused-leaves : o.answer ≡ Filled.Refused k j → o.after ≡ i.1
-  write-refused-leaves e = untouched _ _ i.1 o.answer o.after p k j e
+  pub write_refused_leaves : o.answer ≡ Filled.Refused k j → o.after ≡ i.1
+  write_refused_leaves e = untouched _ _ i.1 o.answer o.after p k j e
 
 -- the checks of a whole run give no number over 4
 start_small : (one two three four : Bool) → refusal (check 1 one ∷ check 2 two ∷ check 3 three ∷ check 4 four ∷ []) ≤ 4
@@ -98,17 +98,17 @@ module _ (i : RunInput) (o : Filling Ran) (p : Runs i o) where
   abbrev words : List ℕ
   words = i.words
 
-  whole-small : whole_number i ≤ 4
-  whole-small =
+  whole_small : whole_number i ≤ 4
+  whole_small =
       start_small (not (eqb (length words % words_per_cycle) 0)) (ltb most_cycles (cycles_in (length words)))
       (ltb (length i.reports) (words_per_report * cycles_in (length words))) (not (may_start m.registers.waiting))
 
   -- a run that is refused as a whole ends so; a started one ends at a refused cycle, which from a machine that may start has 5 to 10
-  whole-ends : (whole_number i ≡ 0 → ⊥) → o.answer.ending ≡ Ending.Refused (whole_number i) 0
-  whole-ends n = (gives_back i o p n).ending
+  whole_ends : (whole_number i ≡ 0 → ⊥) → o.answer.ending ≡ Ending.Refused (whole_number i) 0
+  whole_ends n = (gives_back i o p n).ending
 
-  cycle-ends : whole_number i ≡ 0 → (k j : ℕ) → o.answer.ending ≡ Ending.Refused k j → CycleRefused m words i.budget k j
-  cycle-ends z k j e =
+  cycle_ends : whole_number i ≡ 0 → (k j : ℕ) → o.answer.ending ≡ Ending.Refused k j → CycleRefused m words i.budget k j
+  cycle_ends z k j e =
       let f = follows i o p z in
       let ends = subst (Ends m words (cycles_in (length words)) i.budget o.answer.accepted) e f.ends in
       let at : j ≡ o.answer.accepted = ends.0 in
@@ -119,36 +119,36 @@ module _ (i : RunInput) (o : Filling Ran) (p : Runs i o) where
         here = subst (λ (l : ℕ). (turn_at m words l).answer ≡ refused k) (sym at) ends.3;
       }
 
-  cycle-range : whole_number i ≡ 0 → (k j : ℕ) → CycleRefused m words i.budget k j → (5 ≤ k) × (k ≤ 10)
-  cycle-range z k j c =
+  cycle_range : whole_number i ≡ 0 → (k j : ℕ) → CycleRefused m words i.budget k j → (5 ≤ k) × (k ≤ 10)
+  cycle_range z k j c =
       let machine : Machine = machine_at m words j in
       started_range machine.registers.waiting (cycle_at words j) k
-      (may-go-on m words (may-begin m.registers.waiting (length words) (length i.reports) z) j c.before)
-      (sym (cycle-number machine (cycle_at words j)) ∙ ap (λ (t : Tells Report). t.number) c.here)
-      (refused-numbered machine (cycle_at words j) k c.here)
+      (may_go_on m words (may_begin m.registers.waiting (length words) (length i.reports) z) j c.before)
+      (sym (cycle_number machine (cycle_at words j)) ∙ ap (λ (t : Tells Report). t.number) c.here)
+      (refused_numbered machine (cycle_at words j) k c.here)
 
   -- so a refusal is the whole run's, or that of a cycle
-  by-start : (k j : ℕ) → o.answer.ending ≡ Ending.Refused k j → ((1 ≤ k) × (whole_number i ≡ k) × (j ≡ 0)) ⊎ ((whole_number i ≡ 0) × CycleRefused m words i.budget k j)
-  by-start k j e = by-test (eqb (whole_number i) 0) refl
+  by_start : (k j : ℕ) → o.answer.ending ≡ Ending.Refused k j → ((1 ≤ k) × (whole_number i ≡ k) × (j ≡ 0)) ⊎ ((whole_number i ≡ 0) × CycleRefused m words i.budget k j)
+  by_start k j e = by_test (eqb (whole_number i) 0) refl
     where
-      by-test : (b : Bool) → eqb (whole_number i) 0 ≡ b → ((1 ≤ k) × (whole_number i ≡ k) × (j ≡ 0)) ⊎ ((whole_number i ≡ 0) × CycleRefused m words i.budget k j)
-      by-test true q = let z = eqb-true (whole_number i) 0 q in inr (z, cycle-ends z k j e)
-      by-test false q =
+      by_test : (b : Bool) → eqb (whole_number i) 0 ≡ b → ((1 ≤ k) × (whole_number i ≡ k) × (j ≡ 0)) ⊎ ((whole_number i ≡ 0) × CycleRefused m words i.budget k j)
+      by_test true q = let z = eqb-true (whole_number i) 0 q in inr (z, cycle_ends z k j e)
+      by_test false q =
           let n = eqb-false (whole_number i) 0 q in
-          let same = refused-at-one (whole_number i) k 0 j (ap ending_tells (sym (whole-ends n) ∙ e)) in
+          let same = refused_at_one (whole_number i) k 0 j (ap ending_tells (sym (whole_ends n) ∙ e)) in
           inl (omega (arith, n, same.0), same.0, sym same.1)
 
   -- 1 to 4: the checks of the whole run give the number; the index is 0
-  pub run-refused-exactly : (k j : ℕ) → 1 ≤ k → k ≤ 4 → (o.answer.ending ≡ Ending.Refused k j) ↔ ((whole_number i ≡ k) × (j ≡ 0))
-  run-refused-exactly k j lo hi = ((λ e. ⊎_elim (λ h. (h.1, h.2)) (λ h. absurd (omega (arith, hi, (cycle-range h.0 k j h.1).0))) (by-start k j e)), back)
+  pub run_refused_exactly : (k j : ℕ) → 1 ≤ k → k ≤ 4 → (o.answer.ending ≡ Ending.Refused k j) ↔ ((whole_number i ≡ k) × (j ≡ 0))
+  run_refused_exactly k j lo hi = ((λ e. ⊎_elim (λ h. (h.1, h.2)) (λ h. absurd (omega (arith, hi, (cycle_range h.0 k j h.1).0))) (by_start k j e)), back)
     where
       back : (whole_number i ≡ k) × (j ≡ 0) → o.answer.ending ≡ Ending.Refused k j
-      back h = whole-ends (λ z. omega (arith, z, h.0, lo)) ∙ ap₂ Ending.Refused h.0 (sym h.1)
+      back h = whole_ends (λ z. omega (arith, z, h.0, lo)) ∙ ap₂ Ending.Refused h.0 (sym h.1)
 
   -- 5 to 10: the run is started, and cycle j is refused, all before it being accepted and the budget reaching it
-  pub cycle-refused-exactly : (k j : ℕ) → 5 ≤ k → k ≤ 10 → (o.answer.ending ≡ Ending.Refused k j) ↔ ((whole_number i ≡ 0) × CycleRefused m words i.budget k j)
-  cycle-refused-exactly k j lo hi =
-      ((λ e. ⊎_elim (λ h. absurd (omega (arith, lo, h.1, whole-small))) (λ h. h) (by-start k j e)), (λ h. by-ending h.0 h.1 o.answer.ending (follows i o p h.0).ends))
+  pub cycle_refused_exactly : (k j : ℕ) → 5 ≤ k → k ≤ 10 → (o.answer.ending ≡ Ending.Refused k j) ↔ ((whole_number i ≡ 0) × CycleRefused m words i.budget k j)
+  cycle_refused_exactly k j lo hi =
+      ((λ e. ⊎_elim (λ h. absurd (omega (arith, lo, h.1, whole_small))) (λ h. h) (by_start k j e)), (λ h. by_ending h.0 h.1 o.answer.ending (follows i o p h.0).ends))
     where
       -- cycle j is not accepted
       not-past : whole_number i ≡ 0 → CycleRefused m words i.budget k j → j < o.answer.accepted → ⊥
@@ -156,34 +156,34 @@ module _ (i : RunInput) (o : Filling Ran) (p : Runs i o) where
           let accepted : k ≡ 0 = sym (ap (λ (t : Tells Report). t.number) c.here) ∙ (follows i o p z).accepted j h in
           omega (arith, lo, accepted)
 
-      by-ending : whole_number i ≡ 0 → CycleRefused m words i.budget k j → (x : Ending) → Ends m words (cycles_in (length words)) i.budget o.answer.accepted x → x ≡ Ending.Refused k j
-      by-ending z c Done h = absurd (not-past z c (omega (arith, h.0, c.given)))
-      by-ending z c Stopped h = absurd (not-past z c (omega (arith, h.0, c.paid)))
-      by-ending z c (Ending.Refused l a) h = by_place (ltb o.answer.accepted j) (ltb j o.answer.accepted) refl refl
+      by_ending : whole_number i ≡ 0 → CycleRefused m words i.budget k j → (x : Ending) → Ends m words (cycles_in (length words)) i.budget o.answer.accepted x → x ≡ Ending.Refused k j
+      by_ending z c Done h = absurd (not-past z c (omega (arith, h.0, c.given)))
+      by_ending z c Stopped h = absurd (not-past z c (omega (arith, h.0, c.paid)))
+      by_ending z c (Ending.Refused l a) h = by_place (ltb o.answer.accepted j) (ltb j o.answer.accepted) refl refl
         where
           by_place : (b d : Bool) → ltb o.answer.accepted j ≡ b → ltb j o.answer.accepted ≡ d → Ending.Refused l a ≡ Ending.Refused k j
           by_place true d q r =
-              absurd (refused-numbered (machine_at m words o.answer.accepted) (cycle_at words o.answer.accepted) l h.3
+              absurd (refused_numbered (machine_at m words o.answer.accepted) (cycle_at words o.answer.accepted) l h.3
               (sym (ap (λ (t : Tells Report). t.number) h.3) ∙ c.before o.answer.accepted (ltb-true o.answer.accepted j q)))
           by_place false true q r = absurd (not-past z c (ltb-true j o.answer.accepted r))
           by_place false false q r =
               let at : o.answer.accepted ≡ j = omega (arith, ltb-false o.answer.accepted j q, ltb-false j o.answer.accepted r) in
-              let same : l ≡ k = refused-one l k (sym h.3 ∙ ap (λ (x : ℕ). (turn_at m words x).answer) at ∙ c.here) in
+              let same : l ≡ k = refused_one l k (sym h.3 ∙ ap (λ (x : ℕ). (turn_at m words x).answer) at ∙ c.here) in
               ap (λ (x : ℕ). Ending.Refused x a) same ∙ ap (Ending.Refused k) (h.0 ∙ at)
 
   -- and no run ends in another number: a started one never in 4
-  pub run-numbers : (k j : ℕ) → o.answer.ending ≡ Ending.Refused k j → (1 ≤ k) × (k ≤ 10)
-  run-numbers k j e =
-      ⊎_elim (λ h. (h.0, omega (arith, h.1, whole-small))) (λ h. let r = cycle-range h.0 k j h.1 in (omega (arith, r.0), r.1)) (by-start k j e)
+  pub run_numbers : (k j : ℕ) → o.answer.ending ≡ Ending.Refused k j → (1 ≤ k) × (k ≤ 10)
+  run_numbers k j e =
+      ⊎_elim (λ h. (h.0, omega (arith, h.1, whole_small))) (λ h. let r = cycle_range h.0 k j h.1 in (omega (arith, r.0), r.1)) (by_start k j e)
 
-  pub started-never-four : whole_number i ≡ 0 → (j : ℕ) → o.answer.ending ≡ Ending.Refused 4 j → ⊥
-  started-never-four z j e = let four = (run-refused-exactly 4 j (omega arith) (omega arith)).0 e in omega (arith, z, four.0)
+  pub started_never_four : whole_number i ≡ 0 → (j : ℕ) → o.answer.ending ≡ Ending.Refused 4 j → ⊥
+  started_never_four z j e = let four = (run_refused_exactly 4 j (omega arith) (omega arith)).0 e in omega (arith, z, four.0)
 
 -- a refused cycle, alone, gives the machine back
 pub cycle_refused_leaves : (m : Machine) (c : Words) (t : Turn) → Cycles (m, c) t → (k : ℕ) → t.answer ≡ Answer.Refused k → t.machine ≡ m
 cycle_refused_leaves m c t p k e =
     let told : (cycle_of m c).answer ≡ refused k = sym (ap (λ (x : Turned). x.answer) p) ∙ ap answer_tells e in
-    ap (λ (x : Turned). x.machine) p ∙ refused-unchanged m c k told
+    ap (λ (x : Turned). x.machine) p ∙ refused_unchanged m c k told
 
 -- checks that give a number refuse
 refused_by : (m : Machine) (c : Words) (k : ℕ) → (k ≡ 0 → ⊥) → refusal (checks_of m.registers.waiting c) ≡ k → cycle_of m c ≡ refused_turn m k
@@ -196,8 +196,8 @@ refused_by m c k nonzero e =
 
 told_refusal : {A : Type 0} (j k : ℕ) (x : A) → (k ≡ 0 → ⊥) → (tells j x).number ≡ k → tells j x ≡ refused k
 told_refusal j k x nonzero e =
-    let given : j ≡ k = sym (told-number j x) ∙ e in
-    tells-refused j x (λ z. nonzero (sym given ∙ z)) ∙ ap refused given
+    let given : j ≡ k = sym (told_number j x) ∙ e in
+    tells_refused j x (λ z. nonzero (sym given ∙ z)) ∙ ap refused given
 
 word_refused : (w k : ℕ) → (k ≡ 0 → ⊥) → (decode_of w).number ≡ k → decode_of w ≡ refused k
 unfolding decode_of
@@ -213,24 +213,24 @@ pub one_cycle_refused_exactly : (m : Machine) (c : Words) (t : Turn) → Cycles 
 one_cycle_refused_exactly m c t p k nonzero = (to, back)
   where
     to : t.answer ≡ Answer.Refused k → refusal (checks_of m.registers.waiting c) ≡ k
-    to e = sym (cycle-number m c) ∙ sym (ap (λ (x : Turned). x.answer.number) p) ∙ ap (λ (a : Answer). (answer_tells a).number) e
+    to e = sym (cycle_number m c) ∙ sym (ap (λ (x : Turned). x.answer.number) p) ∙ ap (λ (a : Answer). (answer_tells a).number) e
 
     back : refusal (checks_of m.registers.waiting c) ≡ k → t.answer ≡ Answer.Refused k
     back e = ap (λ (x : Turn). x.answer) (cycle_unique m c t (record { machine = m; answer = Answer.Refused k }) p (sym (refused_by m c k nonzero e)))
 
 -- one step: its number is the one that its checks give, and a refused step leaves RAM and the other registers
 module _ (ram : List ℕ) (core : Core) (c : Words) (o : Filling Stepped) (p : StepsMachine (ram, core, c) o) where
-  pub step-refused-exactly : o.answer.refusal ≡ refusal (checks_of core.waiting c)
-  step-refused-exactly =
-      sym (told-number o.answer.refusal (report_in o.answer))
-      ∙ ap (λ (x : Turned). x.answer.number) p.turn ∙ cycle-number (machine_from ram core) c
+  pub step_refused_exactly : o.answer.refusal ≡ refusal (checks_of core.waiting c)
+  step_refused_exactly =
+      sym (told_number o.answer.refusal (report_in o.answer))
+      ∙ ap (λ (x : Turned). x.answer.number) p.turn ∙ cycle_number (machine_from ram core) c
 
-  pub step-refused-leaves : (o.answer.refusal ≡ 0 → ⊥) → (o.after ≡ ram) × (o.answer.core ≡ core)
-  step-refused-leaves n =
+  pub step_refused_leaves : (o.answer.refusal ≡ 0 → ⊥) → (o.after ≡ ram) × (o.answer.core ≡ core)
+  step_refused_leaves n =
       let told : (cycle_of (machine_from ram core) c).answer ≡ refused o.answer.refusal =
-      sym (ap (λ (x : Turned). x.answer) p.turn) ∙ tells-refused o.answer.refusal (report_in o.answer) n in
+      sym (ap (λ (x : Turned). x.answer) p.turn) ∙ tells_refused o.answer.refusal (report_in o.answer) n in
       let same : machine_from o.after o.answer.core ≡ machine_from ram core =
-      ap (λ (x : Turned). x.machine) p.turn ∙ refused-unchanged (machine_from ram core) c o.answer.refusal told in
+      ap (λ (x : Turned). x.machine) p.turn ∙ refused_unchanged (machine_from ram core) c o.answer.refusal told in
       (ap (λ (m : Machine). m.registers.ram) same, ap (λ (m : Machine). core_of m.registers) same)
 
 -- words and named instructions: 7, 8 or 9 exactly when decoding or encoding has that number

@@ -1,6 +1,6 @@
 -- A trace as text: unpacked and packed again it is the same trace. The text is what `words_line` makes of the words that were read, line by
 -- line; reading, taking and writing are the calls' own answers.
--- The law: `unpacked-and-packed`.
+-- The law: `unpacked_and_packed`.
 use mathlib.Core.Path.{◌≡◌, refl, sym, ap, subst, ◌∙◌}
 use mathlib.Core.List.{List, [], ◌∷◌, ◌++◌}
 use Prim.Native.Nat.{ℕ, zero, suc, ◌-◌, ◌*◌, ◌/◌, ◌≤◌}
@@ -19,7 +19,7 @@ use Rattle.trace.specs.Blocks.{count_of, records_end, record_words}
 use Rattle.trace.specs.Reading.{blocks_of, all_record_words, read_of, read_words}
 use Rattle.trace.proofs.Words.{bytes_take, bytes_drop}
 use Rattle.trace.proofs.Answered.{read_says}
-use Rattle.trace.proofs.Trips.{left_by, made-read}
+use Rattle.trace.proofs.Trips.{left_by, made_read}
 use Rattle.lines.specs.Words.{text_of, AllWords, all_read}
 use Rattle.lines.proofs.ReadBack.{text_read}
 use Rattle.demands.specs.Calls.{Filling, TakesText, ReadsTrace, WritesTrace}
@@ -57,7 +57,7 @@ module _ (t lent : List ℕ) (n : ℕ) (o : Filling Filled) (bytes : Bytes t) (r
   told = sym reads.told ∙ ap filled_tells e
 
   long : length (read_words 3 t) ≡ n
-  long = (made-read 3 (omega arith) refl t (length lent) n (length t) told bytes (omega arith)).0
+  long = (made_read 3 (omega arith) refl t (length lent) n (length t) told bytes (omega arith)).0
 
   same : cycles ≡ read_words 3 t
   same = ap (take n) (left_by (read_of 3 t (length lent)) n (read_words 3 t) lent o.after told reads.written) ∙ take_at (read_words 3 t) (drop n lent) n long
@@ -82,15 +82,15 @@ module _ (t lent : List ℕ) (n : ℕ) (o : Filling Filled) (bytes : Bytes t) (r
     found : p.answer.reader.found ≡ length cycles
     found = ap (λ (k : Taken). k.reader.found) answered
 
-    same-words : take p.answer.reader.found p.after ≡ cycles
-    same-words =
+    same_words : take p.answer.reader.found p.after ≡ cycles
+    same_words =
         ap (λ (k : ℕ). take k p.after) found
         ∙ ap (take (length cycles)) (takes.written ∙ ap (λ (k : Took). k.words) read)
         ∙ take_at cycles (drop (length cycles) words) (length cycles) refl
 
     -- and written: the bytes of the trace
-    pub unpacked-and-packed : (trace : List ℕ) (q : Filling Filled) → WritesTrace (take p.answer.reader.found p.after, trace) q → length t ≤ length trace
+    pub unpacked_and_packed : (trace : List ℕ) (q : Filling Filled) → WritesTrace (take p.answer.reader.found p.after, trace) q → length t ≤ length trace
         → (p.answer.stop ≡ Stop.TextEnd) × (p.answer.reader.faults ≡ 0) × (q.answer ≡ Filled.Accepted (length t)) × (q.after ≡ t ++ drop (length t) trace)
-    unpacked-and-packed trace q w h =
-        let again = trace_there_and_back t lent n o bytes reads e trace q (subst (λ (l : List ℕ). WritesTrace (l, trace) q) same-words w) h in
+    unpacked_and_packed trace q w h =
+        let again = trace_there_and_back t lent n o bytes reads e trace q (subst (λ (l : List ℕ). WritesTrace (l, trace) q) same_words w) h in
         (ap (λ (k : Taken). k.stop) answered, ap (λ (k : Taken). k.reader.faults) answered, again.0, again.1)

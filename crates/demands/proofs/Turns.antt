@@ -32,7 +32,7 @@ use Rattle.machine.specs.Seeing.{view_of}
 use Rattle.machine.specs.Acting.{effect_of}
 use Rattle.machine.specs.Settling.{latched, ram_after, acc_after, settled_of, UpperBytesKept}
 use Rattle.machine.specs.Cycles.{Turned, turn_from, performed_turn, turn_of, cycle_of}
-use Rattle.machine.proofs.Kept.{settled-ram, settled-acc}
+use Rattle.machine.proofs.Kept.{settled_ram_lem, settled_acc_lem}
 use Rattle.demands.specs.Isolation.{low_byte, SameLowBytes, ByteMark, LinesAlike, CyclesAlike}
 
 -- what a byte write leaves in low bytes
@@ -110,21 +110,21 @@ module _ (i : Named) (p : Plan) (r s : Registers) (pins : ℕ) (same : SameLowBy
   abbrev turn : Mode → Registers → Effect → Turned
   turn mode x e = turn_from i p x (settled_of mode p.register x e pins) e pins
 
-  by-effect : (e : Effect) → TurnsAlike r s (turn Byte r e) (turn Byte s e)
+  by_effect : (e : Effect) → TurnsAlike r s (turn Byte r e) (turn Byte s e)
   unfolding settled_of
-  by-effect e = record {
+  by_effect e = record {
     answer = rw same.status;
     ends = settled_alike p.register r s e pins same;
-    first = record { ram = settled-ram p.register r e pins; acc = settled-acc p.register r e pins };
-    second = record { ram = settled-ram p.register s e pins; acc = settled-acc p.register s e pins };
+    first = record { ram = settled_ram_lem p.register r e pins; acc = settled_acc_lem p.register r e pins };
+    second = record { ram = settled_ram_lem p.register s e pins; acc = settled_acc_lem p.register s e pins };
   }
 
-  performed-alike : (x y : ℕ) → p.mode ≡ Byte → low_byte x ≡ low_byte y → TurnsAlike r s (performed_turn i p r x pins) (performed_turn i p s y pins)
-  performed-alike x y m e =
+  performed_alike : (x y : ℕ) → p.mode ≡ Byte → low_byte x ≡ low_byte y → TurnsAlike r s (performed_turn i p r x pins) (performed_turn i p s y pins)
+  performed_alike x y m e =
       subst⁻¹ (λ (z : Mode). TurnsAlike r s (turn z r (effect_of p (view_of z p.register r x))) (turn z s (effect_of p (view_of z p.register s y)))) m
       (subst (λ (v : View). TurnsAlike r s (turn Byte r (effect_of p (view_of Byte p.register r x))) (turn Byte s (effect_of p v)))
       (view_same p.register r s x y same e)
-      (by-effect (effect_of p (view_of Byte p.register r x))))
+      (by_effect (effect_of p (view_of Byte p.register r x))))
 
 -- the byte mark is byte mode
 byte_plan : (w : ℕ) → ByteMark w → (plan_of (named_by w)).mode ≡ Byte
@@ -139,8 +139,8 @@ module _ (m n : Machine) (same : SameLowBytes m.registers n.registers) (c d : Wo
   abbrev s : Registers
   s = latched n.registers d.input c.pins
 
-  after-latch : SameLowBytes r s
-  after-latch = latched_alike m.registers n.registers c.input d.input c.pins same alike.input
+  after_latch : SameLowBytes r s
+  after_latch = latched_alike m.registers n.registers c.input d.input c.pins same alike.input
 
   -- from the latched registers to those at the start: the latch is not among RAM and ACC
   since : (t u : Turned) → TurnsAlike r s t u → TurnsAlike m.registers n.registers t u
@@ -161,7 +161,7 @@ module _ (m n : Machine) (same : SameLowBytes m.registers n.registers) (c d : Wo
   waits : c.lines ≡ d.lines → TurnsAlike m.registers n.registers (turn_of Wait m r c) (turn_of Wait n s d')
   waits e = record {
     answer = rw same.status;
-    ends = record { ram = same.ram; acc = same.acc; latch = after-latch.latch; status = same.status; waiting = ap Held e };
+    ends = record { ram = same.ram; acc = same.acc; latch = after_latch.latch; status = same.status; waiting = ap Held e };
     first = record { ram = refl; acc = refl };
     second = record { ram = refl; acc = refl };
   }
@@ -170,45 +170,45 @@ module _ (m n : Machine) (same : SameLowBytes m.registers n.registers) (c d : Wo
       → TurnsAlike m.registers n.registers (turn_of (perform (named_by w) x) m r c) (turn_of (perform (named_by w) y) n s d')
   performs w x y b e =
       since (performed_turn (named_by w) (plan_of (named_by w)) r x c.pins) (performed_turn (named_by w) (plan_of (named_by w)) s y c.pins)
-      (performed-alike (named_by w) (plan_of (named_by w)) r s c.pins after-latch x y (byte_plan w b) e)
+      (performed_alike (named_by w) (plan_of (named_by w)) r s c.pins after_latch x y (byte_plan w b) e)
 
   -- an accepted one
-  accepted-alike : (w : Waiting) → LinesAlike w c.lines d.lines → ByteMark (word_about w c.lines)
+  accepted_alike : (w : Waiting) → LinesAlike w c.lines d.lines → ByteMark (word_about w c.lines)
       → TurnsAlike m.registers n.registers (turn_of (accepted_as w c) m r c) (turn_of (accepted_as w d') n s d')
-  accepted-alike Nothing e b =
+  accepted_alike Nothing e b =
       subst (λ (l : ℕ). TurnsAlike m.registers n.registers (turn_of (accepted_as Nothing c) m r c)
       (turn_of (accepted_as Nothing (record { lines = l; input = d.input; pins = c.pins })) n s d')) e
-      (by-test (takes_immediate c.lines))
+      (by_test (takes_immediate c.lines))
     where
-      by-test : (t : Bool) → TurnsAlike m.registers n.registers (turn_of (pick t Wait (perform (named_by c.lines) 0)) m r c)
+      by_test : (t : Bool) → TurnsAlike m.registers n.registers (turn_of (pick t Wait (perform (named_by c.lines) 0)) m r c)
           (turn_of (pick t Wait (perform (named_by c.lines) 0)) n s d')
-      by-test true = waits e
-      by-test false = performs c.lines 0 0 b refl
-  accepted-alike (Held w) e b = performs w c.lines d.lines b e
+      by_test true = waits e
+      by_test false = performs c.lines 0 0 b refl
+  accepted_alike (Held w) e b = performs w c.lines d.lines b e
 
   -- the same number in both
   numbers : (w : Waiting) → LinesAlike w c.lines d.lines → refusal (checks_of w c) ≡ refusal (checks_of w d')
   numbers Nothing e = ap (λ (l : ℕ). refusal (begin_checks (record { lines = l; input = d.input; pins = c.pins }))) e
   numbers (Held w) e = refl
 
-  turns-by : (w : Waiting) → LinesAlike w c.lines d.lines → (refusal (checks_of w c) ≡ 0 → ByteMark (word_about w c.lines))
+  turns_by : (w : Waiting) → LinesAlike w c.lines d.lines → (refusal (checks_of w c) ≡ 0 → ByteMark (word_about w c.lines))
       → TurnsAlike m.registers n.registers (turn_of (judgement_of w c) m r c) (turn_of (judgement_of w d') n s d')
   unfolding judgement_of
-  turns-by w e b =
+  turns_by w e b =
       subst (λ (k : ℕ). TurnsAlike m.registers n.registers (turn_of (judgement_of w c) m r c) (turn_of (pick (eqb k 0) (accepted_as w d') (Refuse k)) n s d'))
-      (numbers w e) (by-test (eqb (refusal (checks_of w c)) 0) refl)
+      (numbers w e) (by_test (eqb (refusal (checks_of w c)) 0) refl)
     where
-      by-test : (t : Bool) → eqb (refusal (checks_of w c)) 0 ≡ t
+      by_test : (t : Bool) → eqb (refusal (checks_of w c)) 0 ≡ t
           → TurnsAlike m.registers n.registers (turn_of (pick t (accepted_as w c) (Refuse (refusal (checks_of w c)))) m r c)
           (turn_of (pick t (accepted_as w d') (Refuse (refusal (checks_of w c)))) n s d')
-      by-test true q = accepted-alike w e (b (eqb-true (refusal (checks_of w c)) 0 q))
-      by-test false q = refuses (refusal (checks_of w c))
+      by_test true q = accepted_alike w e (b (eqb-true (refusal (checks_of w c)) 0 q))
+      by_test false q = refuses (refusal (checks_of w c))
 
   -- a mark is asked only of a word that is not refused
-  pub turns-alike : (refusal (checks_of m.registers.waiting c) ≡ 0 → ByteMark (word_about m.registers.waiting c.lines))
+  pub turns_alike : (refusal (checks_of m.registers.waiting c) ≡ 0 → ByteMark (word_about m.registers.waiting c.lines))
       → TurnsAlike m.registers n.registers (cycle_of m c) (cycle_of n d)
   unfolding cycle_of
-  turns-alike b =
+  turns_alike b =
       subst (λ (p : ℕ). TurnsAlike m.registers n.registers (cycle_of m c) (cycle_of n (record { lines = d.lines; input = d.input; pins = p }))) alike.pins
       (subst (λ (w : Waiting). TurnsAlike m.registers n.registers (cycle_of m c) (turn_of (judgement_of w d') n s d')) same.waiting
-      (turns-by m.registers.waiting alike.lines b))
+      (turns_by m.registers.waiting alike.lines b))

@@ -52,11 +52,11 @@ cycles_closed m (suc budget) (c ∷ cycles) =
 
 run_closed : (i : RunInput) → Closed (course_for i).close
 unfolding run_of
-run_closed i = by-test (eqb (start_refusal i.machine i.words (length i.reports)) 0)
+run_closed i = by_test (eqb (start_refusal i.machine i.words (length i.reports)) 0)
   where
-    by-test : (b : Bool) → Closed (pick b (run_from i.machine i.budget (cycles_of i.words)) (closing (refused (start_refusal i.machine i.words (length i.reports))))).close
-    by-test true = cycles_closed i.machine i.budget (cycles_of i.words)
-    by-test false = λ k. refl
+    by_test : (b : Bool) → Closed (pick b (run_from i.machine i.budget (cycles_of i.words)) (closing (refused (start_refusal i.machine i.words (length i.reports))))).close
+    by_test true = cycles_closed i.machine i.budget (cycles_of i.words)
+    by_test false = λ k. refl
 
 -- the definition itself keeps what `run` promises
 pub right_faithful : Faithful right
@@ -124,27 +124,27 @@ module _ (e : Emulator) (f : Faithful e) where
   said : {A : Type 0} (field : Summary → A) (i : RunInput) → field (ran_tells (e i).answer) ≡ field (told_of i)
   said field i = ap field (f i).answer
 
-  pub not-refusing-everything : RefusesEverything e → ⊥
-  not-refusing-everything w = (w nothing).0 (ending_one (e nothing).answer.ending Done (said (λ (s : Summary). s.ending) nothing ∙ nothing_done))
+  pub not_refusing_everything : RefusesEverything e → ⊥
+  not_refusing_everything w = (w nothing).0 (ending_one (e nothing).answer.ending Done (said (λ (s : Summary). s.ending) nothing ∙ nothing_done))
 
   -- the accepted counts of two runs
-  counts-differ : (e nothing).answer.accepted ≡ (e unlisted).answer.accepted → ⊥
-  counts-differ q =
+  counts_differ : (e nothing).answer.accepted ≡ (e unlisted).answer.accepted → ⊥
+  counts_differ q =
       let one : (e nothing).answer.accepted ≡ 1 = said (λ (s : Summary). s.accepted) nothing ∙ nothing_accepted in
       let zero : (e unlisted).answer.accepted ≡ 0 = said (λ (s : Summary). s.accepted) unlisted ∙ unlisted_accepted in
       omega (arith, q, one, zero)
 
-  pub not-a-fixed-answer : FixedAnswer e → ⊥
-  not-a-fixed-answer w = counts-differ (ap (λ (r : Ran). r.accepted) (w nothing unlisted))
+  pub not_a_fixed_answer : FixedAnswer e → ⊥
+  not_a_fixed_answer w = counts_differ (ap (λ (r : Ran). r.accepted) (w nothing unlisted))
 
-  pub not-never-changing : NeverChanges e → ⊥
-  not-never-changing w =
+  pub not_never_changing : NeverChanges e → ⊥
+  not_never_changing w =
       let one : (e increment).answer.machine.registers.acc ≡ 1 = ap (λ (m : Machine). m.registers.acc) (said (λ (s : Summary). s.machine) increment) ∙ increment_acc in
       let zero : (e increment).answer.machine.registers.acc ≡ 0 = ap (λ (m : Machine). m.registers.acc) (w increment) in
       omega (arith, one, zero)
 
-  pub not-copying-the-first : CopiesFirst e → ⊥
-  not-copying-the-first w =
+  pub not_copying_the_first : CopiesFirst e → ⊥
+  not_copying_the_first w =
       let after : (e both).after ≡ 0 ∷ 0 ∷ 0 ∷ 16 ∷ 1 ∷ 0xFFFF ∷ 0 ∷ 16 ∷ [] =
       (f both).written ∙ ap (λ (l : List ℕ). l ++ drop (length l) both.reports) both_reports in
       let two : (e both).answer.accepted ≡ 2 = said (λ (s : Summary). s.accepted) both ∙ both_accepted in
@@ -161,11 +161,11 @@ module _ (e : Emulator) (f : Faithful e) where
           let bad : ◌≡◌ {A = ℕ} 1 0 = ap first q in
           omega (arith, bad)
 
-  pub not-inventing-counts : InventsCounts e → ⊥
-  not-inventing-counts w = counts-differ (w nothing unlisted refl).0
+  pub not_inventing_counts : InventsCounts e → ⊥
+  not_inventing_counts w = counts_differ (w nothing unlisted refl).0
 
-  pub not-counting-every-cycle : CountsEveryCycle e → ⊥
-  not-counting-every-cycle w =
+  pub not_counting_every_cycle : CountsEveryCycle e → ⊥
+  not_counting_every_cycle w =
       let one : (e begun).answer.accepted ≡ 1 = said (λ (s : Summary). s.accepted) begun ∙ begun_counts.0 in
       let none : (e begun).answer.completed ≡ 0 = said (λ (s : Summary). s.completed) begun ∙ begun_counts.1 in
       omega (arith, one, none, w begun)

@@ -12,7 +12,7 @@ use Rattle.choice.specs.Checks.{Check, check, refusal}
 use Rattle.choice.specs.Tells.{Tells, accepted, refused, tells}
 use Rattle.choice.proofs.Checks.{held, passed}
 use Rattle.choice.proofs.Decisions.{along}
-use Rattle.choice.proofs.Tells.{tells-accepted, tells-refused, first-held, first-clear}
+use Rattle.choice.proofs.Tells.{tells_accepted, tells_refused, first_held, first_clear}
 use Rattle.isa.specs.declared.Family.{Family}
 use Rattle.isa.specs.declared.Family.TheVariants.{Tor1}
 use Rattle.isa.specs.declared.Row.{Row}
@@ -45,10 +45,10 @@ module _ (w i : ℕ) (e : RowIs w i) where
       ∙ ap (λ (r : Row). looked (refusal (word_checks w)) r.family)
       (sym (get_or-eq_default rows (row Tor1 0 0 0 0 0 no_rule never) {n = word_number w} unlisted))
 
-  pub look-row : i < no_row → (k : ℕ) → (i < no_row → k ≡ refusal (rule_checks (row_at i) (mark_of w) (field_a w) (field_b w)))
+  pub look_row : i < no_row → (k : ℕ) → (i < no_row → k ≡ refusal (rule_checks (row_at i) (mark_of w) (field_a w) (field_b w)))
       → (f : Family) → Along eqb no_row (λ j. j) i (number_of f) → looked k f ≡ lookup_of w
   unfolding lookup_of
-  look-row h k r f t =
+  look_row h k r f t =
       let listed : word_number w < no_row = subst (λ (j : ℕ). j < no_row) found h in
       ap (λ (k : ℕ). looked k f)
       (r h ∙ ap (λ (j : ℕ). refusal (rule_checks (row_at j) (mark_of w) (field_a w) (field_b w))) found
@@ -68,11 +68,11 @@ module _ (w : ℕ) (l : Lookup) (e : l ≡ lookup_of w) where
   unfolding lookup_of decode_of
   told = ap (λ (l : Lookup). tells l.refusal l.named) e
 
-  pub decode-accepted : l.refusal ≡ 0 → accepted l.named ≡ decode_of w
-  decode-accepted z = sym (tells-accepted l.refusal l.named z) ∙ told
+  pub decode_accepted : l.refusal ≡ 0 → accepted l.named ≡ decode_of w
+  decode_accepted z = sym (tells_accepted l.refusal l.named z) ∙ told
 
-  pub decode-refused : (l.refusal ≡ 0 → ⊥) → refused l.refusal ≡ decode_of w
-  decode-refused n = sym (tells-refused l.refusal l.named n) ∙ told
+  pub decode_refused : (l.refusal ≡ 0 → ⊥) → refused l.refusal ≡ decode_of w
+  decode_refused n = sym (tells_refused l.refusal l.named n) ∙ told
 
 -- the answer for fields, by the number of their row
 abbrev instruction : ℕ → ℕ → ℕ → ℕ → ℕ → Named
@@ -84,15 +84,15 @@ answer_at i mark a b c = tells (refusal (check 7 (leb no_row i) ∷ rule_checks 
 pub answer_accepted : (i mark a b c : ℕ) → i < no_row → refusal (rule_checks (row_at i) mark a b) ≡ 0 → answer_at i mark a b c ≡ accepted (instruction i mark a b c)
 unfolding answer_at
 answer_accepted i mark a b c h z =
-    first-clear 7 (leb no_row i) (rule_checks (row_at i) mark a b) (instruction i mark a b c) (lt-leb no_row i h)
-    ∙ tells-accepted (refusal (rule_checks (row_at i) mark a b)) (instruction i mark a b c) z
+    first_clear 7 (leb no_row i) (rule_checks (row_at i) mark a b) (instruction i mark a b c) (lt-leb no_row i h)
+    ∙ tells_accepted (refusal (rule_checks (row_at i) mark a b)) (instruction i mark a b c) z
 
 answer_refused : (i mark a b c : ℕ) → i < no_row → (k : ℕ) → k ≡ refusal (rule_checks (row_at i) mark a b) → (k ≡ 0 → ⊥) → answer_at i mark a b c ≡ refused k
 unfolding answer_at
 answer_refused i mark a b c h k e n =
-    first-clear 7 (leb no_row i) (rule_checks (row_at i) mark a b) (instruction i mark a b c) (lt-leb no_row i h)
+    first_clear 7 (leb no_row i) (rule_checks (row_at i) mark a b) (instruction i mark a b c) (lt-leb no_row i h)
     ∙ ap (λ (k : ℕ). tells k (instruction i mark a b c)) (sym e)
-    ∙ tells-refused k (instruction i mark a b c) n
+    ∙ tells_refused k (instruction i mark a b c) n
 
 -- the decoder's answer, once the row's number is the word's
 pub decoded : (w i : ℕ) → i ≡ word_number w → answer_at i (mark_of w) (field_a w) (field_b w) (field_c w) ≡ decode_of w
@@ -105,23 +105,23 @@ module _ (w i : ℕ) (s : SameRow w i) where
   unfolding SameRow
   same_row = s
 
-  pub immediate-none : no_row ≤ i → false ≡ takes_immediate w
+  pub immediate_none : no_row ≤ i → false ≡ takes_immediate w
   unfolding takes_immediate decode_of
-  immediate-none h =
+  immediate_none h =
       ap (λ (t : Tells Named). names_i t.value)
-      (sym (first-held 7 (leb no_row (word_number w)) (rule_checks (word_row w) (mark_of w) (field_a w) (field_b w)) (named_by w) (λ e. omega arith)
+      (sym (first_held 7 (leb no_row (word_number w)) (rule_checks (word_row w) (mark_of w) (field_a w) (field_b w)) (named_by w) (λ e. omega arith)
       (le-leb no_row (word_number w) (same_row.1 h))))
 
   module _ (h : i < no_row) (k : ℕ) (e : k ≡ refusal (rule_checks (row_at i) (mark_of w) (field_a w) (field_b w))) where
-    pub immediate-refused : (k ≡ 0 → ⊥) → false ≡ takes_immediate w
+    pub immediate_refused : (k ≡ 0 → ⊥) → false ≡ takes_immediate w
     unfolding takes_immediate
-    immediate-refused n =
+    immediate_refused n =
         ap (λ (t : Tells Named). names_i t.value)
         (sym (answer_refused i (mark_of w) (field_a w) (field_b w) (field_c w) h k e n) ∙ decoded w i (same_row.0 h))
 
-    pub immediate-row : k ≡ 0 → asks_i (row_at i) (field_a w) (field_b w) ≡ takes_immediate w
+    pub immediate_row : k ≡ 0 → asks_i (row_at i) (field_a w) (field_b w) ≡ takes_immediate w
     unfolding takes_immediate
-    immediate-row z =
+    immediate_row z =
         ap (λ (j : ℕ). asks_i (row_at j) (field_a w) (field_b w)) (sym (own_number i h))
         ∙ ap (λ (t : Tells Named). names_i t.value)
         (sym (answer_accepted i (mark_of w) (field_a w) (field_b w) (field_c w) h (sym e ∙ z)) ∙ decoded w i (same_row.0 h))
@@ -132,14 +132,14 @@ module _ (r : Row) (mark a b c : ℕ) (t : Bool) (e : t ≡ takes r mark a b c) 
 
   pub fill_none : t ≡ false → refused 7 ≡ fill_of r mark a b c
   unfolding fill_of
-  fill_none p = sym (first-held 7 (not (takes r mark a b c)) (rule_checks r mark a b) word (λ e. omega arith) (ap not (sym e ∙ p)))
+  fill_none p = sym (first_held 7 (not (takes r mark a b c)) (rule_checks r mark a b) word (λ e. omega arith) (ap not (sym e ∙ p)))
 
   taken : t ≡ true → tells (refusal (rule_checks r mark a b)) word ≡ fill_of r mark a b c
   unfolding fill_of
-  taken p = sym (first-clear 7 (not (takes r mark a b c)) (rule_checks r mark a b) word (ap not (sym e ∙ p)))
+  taken p = sym (first_clear 7 (not (takes r mark a b c)) (rule_checks r mark a b) word (ap not (sym e ∙ p)))
 
-  pub fill-accepted : t ≡ true → (k : ℕ) → k ≡ refusal (rule_checks r mark a b) → k ≡ 0 → accepted word ≡ fill_of r mark a b c
-  fill-accepted p k f z = sym (tells-accepted (refusal (rule_checks r mark a b)) word (sym f ∙ z)) ∙ taken p
+  pub fill_accepted : t ≡ true → (k : ℕ) → k ≡ refusal (rule_checks r mark a b) → k ≡ 0 → accepted word ≡ fill_of r mark a b c
+  fill_accepted p k f z = sym (tells_accepted (refusal (rule_checks r mark a b)) word (sym f ∙ z)) ∙ taken p
 
-  pub fill-refused : t ≡ true → (k : ℕ) → k ≡ refusal (rule_checks r mark a b) → (k ≡ 0 → ⊥) → refused k ≡ fill_of r mark a b c
-  fill-refused p k f n = sym (tells-refused k word n) ∙ ap (λ (k : ℕ). tells k word) f ∙ taken p
+  pub fill_refused : t ≡ true → (k : ℕ) → k ≡ refusal (rule_checks r mark a b) → (k ≡ 0 → ⊥) → refused k ≡ fill_of r mark a b c
+  fill_refused p k f n = sym (tells_refused k word n) ∙ ap (λ (k : ℕ). tells k word) f ∙ taken p

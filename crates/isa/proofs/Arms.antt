@@ -26,15 +26,15 @@ module _ (q mlo mn alo an blo bn : ℕ) where
   one_row row t m a b h = box (λ m a b. row) (slots q) mlo mn alo an blo bn t m a b h
 
   -- what a decision over B found of mark m₀ and A a₀
-  pub by-b : (m₀ a₀ : ℕ) → T (Agree (λ m a b. slot_of m₀ q a₀ b) (slots q) mlo mn alo an blo bn)
+  pub by_b : (m₀ a₀ : ℕ) → T (Agree (λ m a b. slot_of m₀ q a₀ b) (slots q) mlo mn alo an blo bn)
       → (m a b r n : ℕ) → Inside mlo mn alo an blo bn m a b → b < n → Along eqb n (λ k. slot_of m₀ q a₀ k) b r → r ≡ slot_of m q a b
-  by-b m₀ a₀ t m a b r n h k told =
+  by_b m₀ a₀ t m a b r n h k told =
       along n (λ k. slot_of m₀ q a₀ k) b r told k ∙ box (λ m a b. slot_of m₀ q a₀ b) (slots q) mlo mn alo an blo bn t m a b h
 
   -- what a decision over A found of mark m₀ and B b₀
-  pub by-a : (m₀ b₀ : ℕ) → T (Agree (λ m a b. slot_of m₀ q a b₀) (slots q) mlo mn alo an blo bn)
+  pub by_a : (m₀ b₀ : ℕ) → T (Agree (λ m a b. slot_of m₀ q a b₀) (slots q) mlo mn alo an blo bn)
       → (m a b r n : ℕ) → Inside mlo mn alo an blo bn m a b → a < n → Along eqb n (λ k. slot_of m₀ q k b₀) a r → r ≡ slot_of m q a b
-  by-a m₀ b₀ t m a b r n h k told =
+  by_a m₀ b₀ t m a b r n h k told =
       along n (λ k. slot_of m₀ q k b₀) a r told k ∙ box (λ m a b. slot_of m₀ q a b₀) (slots q) mlo mn alo an blo bn t m a b h
 
 -- the rows of a slot, over the slot and field C; nothing is asked of the third number
@@ -44,20 +44,20 @@ slots_by_c x s c = with_c (sharing s) c
 -- an arm over sn slots from slo on
 module _ (slo sn : ℕ) where
   -- every value of C
-  pub every-c : T (Agree (λ x s c. s) slots_by_c 0 1 slo sn 0 32) → (s c : ℕ) → (slo ≤ s) × (s < slo + sn) × (c < 32) → s ≡ with_c (sharing s) c
-  every-c t s c h = box (λ x s c. s) slots_by_c 0 1 slo sn 0 32 t 0 s c (omega arith)
+  pub every_c : T (Agree (λ x s c. s) slots_by_c 0 1 slo sn 0 32) → (s c : ℕ) → (slo ≤ s) × (s < slo + sn) × (c < 32) → s ≡ with_c (sharing s) c
+  every_c t s c h = box (λ x s c. s) slots_by_c 0 1 slo sn 0 32 t 0 s c (omega arith)
 
   -- the values of a list
-  pub listed-c : (set : ℕ) → T (Agree (λ x s c. pick (has set c) s no_row) slots_by_c 0 1 slo sn 0 32)
+  pub listed_c : (set : ℕ) → T (Agree (λ x s c. pick (has set c) s no_row) slots_by_c 0 1 slo sn 0 32)
       → (s c r : ℕ) (ok : Bool) → (slo ≤ s) × (s < slo + sn) × (c < 32) → Along same 32 (has set) c ok → r ≡ pick ok s no_row → r ≡ with_c (sharing s) c
-  listed-c set t s c r ok h told e =
+  listed_c set t s c r ok h told e =
       e ∙ ap (λ (b : Bool). pick b s no_row) (along_test 32 (has set) c ok told h.2)
       ∙ box (λ x s c. pick (has set c) s no_row) slots_by_c 0 1 slo sn 0 32 t 0 s c (omega arith)
 
   -- what the decision over C found in the slot s₀
-  pub shared-c : (s₀ : ℕ) → T (Agree (λ x s c. with_c (sharing s₀) c) slots_by_c 0 1 slo sn 0 32)
+  pub shared_c : (s₀ : ℕ) → T (Agree (λ x s c. with_c (sharing s₀) c) slots_by_c 0 1 slo sn 0 32)
       → (s c r : ℕ) → (slo ≤ s) × (s < slo + sn) × (c < 32) → Along eqb 32 (λ k. with_c (sharing s₀) k) c r → r ≡ with_c (sharing s) c
-  shared-c s₀ t s c r h told =
+  shared_c s₀ t s c r h told =
       along 32 (λ k. with_c (sharing s₀) k) c r told h.2
       ∙ box (λ x s c. with_c (sharing s₀) c) slots_by_c 0 1 slo sn 0 32 t 0 s c (omega arith)
 

@@ -44,11 +44,11 @@ unfolding apart shared
 all_apart = tt
 
 differ : (s t k : ℕ) → has s k ≡ true → has t k ≡ true → eqb (bit_and s t) 0 ≡ false
-differ s t k hs ht = by-test (eqb (bit_and s t) 0) refl
+differ s t k hs ht = by_test (eqb (bit_and s t) 0) refl
   where
-    by-test : (b : Bool) → eqb (bit_and s t) 0 ≡ b → b ≡ false
-    by-test true q = absurd (meet s t k hs ht (eqb-true (bit_and s t) 0 q))
-    by-test false q = refl
+    by_test : (b : Bool) → eqb (bit_and s t) 0 ≡ b → b ≡ false
+    by_test true q = absurd (meet s t k hs ht (eqb-true (bit_and s t) 0 q))
+    by_test false q = refl
 
 -- two rows that take the same fields share a value in every set
 sharing_all : (r s : Row) (mark a b c : ℕ) → r.quadrant ≡ s.quadrant → Taken r mark a b c → Taken s mark a b c → shared r s ≡ true
@@ -66,9 +66,9 @@ sharing_all r s mark a b c e t u =
 pub one_row : (i j mark a b c : ℕ) → i < no_row → j < no_row → (row_at i).quadrant ≡ (row_at j).quadrant
     → takes (row_at i) mark a b c ≡ true → takes (row_at j) mark a b c ≡ true → i ≡ j
 unfolding apart
-one_row i j mark a b c hi hj e t u = by-test (eqb i j) refl (below (λ j. apart i j) no_row j (below (λ i. span 0 no_row (λ j. apart i j)) no_row i all_apart hi) hj)
+one_row i j mark a b c hi hj e t u = by_test (eqb i j) refl (below (λ j. apart i j) no_row j (below (λ i. span 0 no_row (λ j. apart i j)) no_row i all_apart hi) hj)
   where
-    by-test : (x : Bool) → eqb i j ≡ x → T (elim x [ true ↦ true | false ↦ not (shared (row_at i) (row_at j)) ]) → i ≡ j
-    by-test true q h = eqb-true i j q
-    by-test false q h =
+    by_test : (x : Bool) → eqb i j ≡ x → T (elim x [ true ↦ true | false ↦ not (shared (row_at i) (row_at j)) ]) → i ≡ j
+    by_test true q h = eqb-true i j q
+    by_test false q h =
         absurd (never (sym (ap not (sharing_all (row_at i) (row_at j) mark a b c e (taken (row_at i) mark a b c t) (taken (row_at j) mark a b c u))) ∙ holds (not (shared (row_at i) (row_at j))) h))

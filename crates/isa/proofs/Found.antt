@@ -27,18 +27,18 @@ blank = row_at no_row
 
 -- a row takes bits 15 to 5 by its quadrant and by the rest
 fits_of : (r : Row) (mark q a b : ℕ) → r.quadrant ≡ q → agrees r mark a b ≡ true → fits r mark q a b ≡ true
-fits_of r mark q a b e t = by-test (eqb r.quadrant q) (eq-eqb r.quadrant q e)
+fits_of r mark q a b e t = by_test (eqb r.quadrant q) (eq-eqb r.quadrant q e)
   where
-    by-test : (x : Bool) → x ≡ true → elim x [ false ↦ false | true ↦ agrees r mark a b ] ≡ true
-    by-test true h = t
-    by-test false h = absurd (never h)
+    by_test : (x : Bool) → x ≡ true → elim x [ false ↦ false | true ↦ agrees r mark a b ] ≡ true
+    by_test true h = t
+    by_test false h = absurd (never h)
 
 of_fits : (r : Row) (mark q a b : ℕ) → fits r mark q a b ≡ true → (r.quadrant ≡ q) × (agrees r mark a b ≡ true)
-of_fits r mark q a b t = by-test (eqb r.quadrant q) refl t
+of_fits r mark q a b t = by_test (eqb r.quadrant q) refl t
   where
-    by-test : (x : Bool) → eqb r.quadrant q ≡ x → elim x [ false ↦ false | true ↦ agrees r mark a b ] ≡ true → (r.quadrant ≡ q) × (agrees r mark a b ≡ true)
-    by-test true h t = (eqb-true r.quadrant q h, t)
-    by-test false h t = absurd (never t)
+    by_test : (x : Bool) → eqb r.quadrant q ≡ x → elim x [ false ↦ false | true ↦ agrees r mark a b ] ≡ true → (r.quadrant ≡ q) × (agrees r mark a b ≡ true)
+    by_test true h t = (eqb-true r.quadrant q h, t)
+    by_test false h t = absurd (never t)
 
 -- the row i takes the fields, and is of the quadrant
 pub record Belongs (mark q a b c i : ℕ) : Type 0 where
@@ -68,30 +68,30 @@ module _ (mark q a b c : ℕ) where
     abbrev with_it : Bool → ℕ
     with_it x = with_c (elim x [ true ↦ k ∷ rest | false ↦ rest ]) c
 
-    found-by-c : (y : Bool) → has (row_at k).c c ≡ y → fits r mark q a b ≡ true
+    found_by_c : (y : Bool) → has (row_at k).c c ≡ y → fits r mark q a b ≡ true
         → (with_c rest c < no_row → Belongs mark q a b c (with_c rest c)) → pick y k (with_c rest c) < no_row
         → Belongs mark q a b c (pick y k (with_c rest c))
-    found-by-c true t f next h =
+    found_by_c true t f next h =
         let u = of_fits (row_at k) mark q a b (rw e at f) in
         record { listed = l; quadrant = u.0; fields = rw (u.1, t) }
-    found-by-c false t f next h = next h
+    found_by_c false t f next h = next h
 
-    found-step : (x : Bool) → fits r mark q a b ≡ x → (with_c rest c < no_row → Belongs mark q a b c (with_c rest c))
+    found_step : (x : Bool) → fits r mark q a b ≡ x → (with_c rest c < no_row → Belongs mark q a b c (with_c rest c))
         → with_it x < no_row → Belongs mark q a b c (with_it x)
-    found-step true f next h = found-by-c (has (row_at k).c c) refl f next h
-    found-step false f next h = next h
+    found_step true f next h = found_by_c (has (row_at k).c c) refl f next h
+    found_step false f next h = next h
 
     chosen : (y : Bool) → with_c rest c < no_row → pick y k (with_c rest c) < no_row
     chosen true h = l
     chosen false h = h
 
-    finds-next : (x : Bool) → with_c rest c < no_row → with_it x < no_row
-    finds-next true h = chosen (has (row_at k).c c) h
-    finds-next false h = h
+    finds_next : (x : Bool) → with_c rest c < no_row → with_it x < no_row
+    finds_next true h = chosen (has (row_at k).c c) h
+    finds_next false h = h
 
-    finds-here : (x : Bool) → fits r mark q a b ≡ x → Belongs mark q a b c k → with_it x < no_row
-    finds-here true f t = rw (in_turn (agrees (row_at k) mark a b) (has (row_at k).c c) t.fields).1 l
-    finds-here false f t =
+    finds_here : (x : Bool) → fits r mark q a b ≡ x → Belongs mark q a b c k → with_it x < no_row
+    finds_here true f t = rw (in_turn (agrees (row_at k) mark a b) (has (row_at k).c c) t.fields).1 l
+    finds_here false f t =
         absurd (never (sym f ∙ rw e (fits_of (row_at k) mark q a b t.quadrant (in_turn (agrees (row_at k) mark a b) (has (row_at k).c c) t.fields).0)))
 
   abbrev at : List Row → ℕ → ℕ
@@ -101,28 +101,28 @@ module _ (mark q a b c : ℕ) where
   found : (k : ℕ) (rs : List Row) → From k rs → k + length rs ≤ no_row → at rs k < no_row → Belongs mark q a b c (at rs k)
   found k [] f l h = absurd (omega arith)
   found k (r ∷ rs) f l h =
-      found-step k r (from_head k r rs f) (omega arith) (fitting rs (suc k) mark q a b) (fits r mark q a b) refl
+      found_step k r (from_head k r rs f) (omega arith) (fitting rs (suc k) mark q a b) (fits r mark q a b) refl
       (found (suc k) rs (from_tail k r rs f) (omega arith)) h
 
   -- something is found if one of the rows from k on takes the fields
   finds : (k : ℕ) (rs : List Row) → From k rs → k + length rs ≤ no_row → (j : ℕ) → j < length rs → Belongs mark q a b c (k + j) → at rs k < no_row
   finds k [] f l j h t = absurd (not-suc-le-zero h)
   finds k (r ∷ rs) f l zero h t =
-      finds-here k r (from_head k r rs f) (omega arith) (fitting rs (suc k) mark q a b) (fits r mark q a b) refl
+      finds_here k r (from_head k r rs f) (omega arith) (fitting rs (suc k) mark q a b) (fits r mark q a b) refl
       (subst (λ (i : ℕ). Belongs mark q a b c i) (omega arith) t)
   finds k (r ∷ rs) f l (suc j) h t =
-      finds-next k r (from_head k r rs f) (omega arith) (fitting rs (suc k) mark q a b) (fits r mark q a b)
+      finds_next k r (from_head k r rs f) (omega arith) (fitting rs (suc k) mark q a b) (fits r mark q a b)
       (finds (suc k) rs (from_tail k r rs f) (omega arith) j (omega arith) (subst (λ (i : ℕ). Belongs mark q a b c i) (omega arith) t))
 
   -- the row that is found takes the fields
-  pub row-belongs : row_of mark q a b c < no_row → Belongs mark q a b c (row_of mark q a b c)
-  row-belongs h = found 0 rows whole in_table h
+  pub row_belongs : row_of mark q a b c < no_row → Belongs mark q a b c (row_of mark q a b c)
+  row_belongs h = found 0 rows whole in_table h
 
   -- a row that takes the fields is the one that is found
-  pub belongs-row : (i : ℕ) → Belongs mark q a b c i → row_of mark q a b c ≡ i
-  belongs-row i t =
+  pub belongs_row : (i : ℕ) → Belongs mark q a b c i → row_of mark q a b c ≡ i
+  belongs_row i t =
       let e : i ≡ 0 + i = omega arith in
-      let u = row-belongs (finds 0 rows whole in_table i t.listed (subst (λ (i : ℕ). Belongs mark q a b c i) e t)) in
+      let u = row_belongs (finds 0 rows whole in_table i t.listed (subst (λ (i : ℕ). Belongs mark q a b c i) e t)) in
       one_row (row_of mark q a b c) i mark a b c u.listed t.listed (u.quadrant ∙ sym t.quadrant) u.fields t.fields
 
 -- row i takes a word
@@ -144,33 +144,33 @@ pub past_start : (w : ℕ) → Past w 0
 past_start w = record { bound = omega arith; none = λ j h. absurd (not-suc-le-zero h) }
 
 past_next : (w i : ℕ) → Past w i → i < no_row → (TakesWord w i → ⊥) → Past w (i + 1)
-past_next w i p h n = record { bound = omega arith; none = λ j l t. by-test j l t (eqb j i) refl }
+past_next w i p h n = record { bound = omega arith; none = λ j l t. by_test j l t (eqb j i) refl }
   where
-    by-test : (j : ℕ) → j < i + 1 → TakesWord w j → (b : Bool) → eqb j i ≡ b → ⊥
-    by-test j l t true q = n (subst (λ (j : ℕ). TakesWord w j) (eqb-true j i q) t)
-    by-test j l t false q = p.none j (omega (arith, eqb-false j i q)) t
+    by_test : (j : ℕ) → j < i + 1 → TakesWord w j → (b : Bool) → eqb j i ≡ b → ⊥
+    by_test j l t true q = n (subst (λ (j : ℕ). TakesWord w j) (eqb-true j i q) t)
+    by_test j l t false q = p.none j (omega (arith, eqb-false j i q)) t
 
 -- row i takes the word, which is then its own, or does not
 module _ (w i : ℕ) (p : Past w i) (h : i < no_row) (t : Bool) (e : t ≡ takes_word (row_at i) w) where
-  pub row-found : t ≡ true → SameRow w i
+  pub row_found : t ≡ true → SameRow w i
   unfolding SameRow
-  row-found f =
+  row_found f =
       let u = in_turn (eqb (row_at i).quadrant (quadrant_of w)) (takes (row_at i) (mark_of w) (field_a w) (field_b w) (field_c w)) (sym e ∙ f) in
       let belongs : TakesWord w i = record { listed = h; quadrant = eqb-true (row_at i).quadrant (quadrant_of w) u.0; fields = u.1 } in
-      (λ l. sym (belongs-row (mark_of w) (quadrant_of w) (field_a w) (field_b w) (field_c w) i belongs), λ l. absurd (apart i h l))
+      (λ l. sym (belongs_row (mark_of w) (quadrant_of w) (field_a w) (field_b w) (field_c w) i belongs), λ l. absurd (apart i h l))
 
-  pub row-past : t ≡ false → Past w (i + 1)
-  row-past f =
+  pub row_past : t ≡ false → Past w (i + 1)
+  row_past f =
       past_next w i p h
       (λ b. never (sym f ∙ e ∙ rw (eq-eqb (row_at i).quadrant (quadrant_of w) b.quadrant, b.fields)))
 
 -- past the last row no row takes the word
 pub row_missed : (w i : ℕ) → Past w i → no_row ≤ i → SameRow w i
 unfolding SameRow
-row_missed w i p h = (λ l. absurd (apart i l h), λ l. by-test (leb no_row (word_number w)) refl)
+row_missed w i p h = (λ l. absurd (apart i l h), λ l. by_test (leb no_row (word_number w)) refl)
   where
-    by-test : (b : Bool) → leb no_row (word_number w) ≡ b → no_row ≤ word_number w
-    by-test true q = leb-true no_row (word_number w) q
-    by-test false q =
+    by_test : (b : Bool) → leb no_row (word_number w) ≡ b → no_row ≤ word_number w
+    by_test true q = leb-true no_row (word_number w) q
+    by_test false q =
         let listed : word_number w < no_row = leb-false no_row (word_number w) q in
-        absurd (p.none (word_number w) (within (word_number w) no_row i listed h) (row-belongs (mark_of w) (quadrant_of w) (field_a w) (field_b w) (field_c w) listed))
+        absurd (p.none (word_number w) (within (word_number w) no_row i listed h) (row_belongs (mark_of w) (quadrant_of w) (field_a w) (field_b w) (field_c w) listed))

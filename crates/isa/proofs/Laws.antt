@@ -1,7 +1,7 @@
 -- What holds of words and named instructions: both round trips, one family to a word, each number exactly when its condition
 -- holds, and one answer to each call.
--- The laws, in this order: `family_in`, `one_family`, `encode-decode`, `encode-small`, `decode-encode`, `word_answered`, `named_answered`,
--- `word-seven`, `word-eight`, `word-nine`, `named-seven`, `named-eight`, `named-nine`, `number-of-named`, `decode_unique`, `look_up_unique`,
+-- The laws, in this order: `family_in`, `one_family`, `encode_decode`, `encode_small`, `decode_encode`, `word_answered`, `named_answered`,
+-- `word_seven`, `word_eight`, `word_nine`, `named_seven`, `named_eight`, `named_nine`, `number_of_named`, `decode_unique`, `look_up_unique`,
 -- `encode_unique`, `number_of_unique`, `numbered_row_unique`, `takes_immediate_unique`.
 use mathlib.Core.Path.{◌≡◌, refl, ◌∙◌, sym, ap, subst}
 use mathlib.Core.Bool.{Bool, true, false, not}
@@ -19,7 +19,7 @@ use Rattle.choice.specs.Checks.{Check, check, refusal, clear}
 use Rattle.choice.specs.Tells.{accepted, tells}
 use Rattle.choice.proofs.Spans.{never}
 use Rattle.choice.proofs.Checks.{positive, exactly, cleared, passed}
-use Rattle.choice.proofs.Tells.{accepted-one, refused-one, accepted-refused, told-accepted, told-number}
+use Rattle.choice.proofs.Tells.{accepted_one, refused_one, accepted_refused, told_accepted, told_number}
 use Rattle.isa.specs.declared.Family.{Family}
 use Rattle.isa.specs.declared.Row.{Row}
 use Rattle.isa.specs.declared.Named.{Named}
@@ -33,13 +33,13 @@ use Rattle.isa.specs.Words.{InFamily, Listed, acc_twice, bit_too_high, rule_chec
 use Rattle.isa.specs.Decision.{fill_of}
 use Rattle.isa.proofs.Families.{own_row, own_number, narrow, mark_small}
 use Rattle.isa.proofs.Takes.{small}
-use Rattle.isa.proofs.Answers.{answer_at, answer_accepted, decoded, fill-accepted}
-use Rattle.isa.proofs.Found.{Belongs, TakesWord, row-belongs, belongs-row}
+use Rattle.isa.proofs.Answers.{answer_at, answer_accepted, decoded, fill_accepted}
+use Rattle.isa.proofs.Found.{Belongs, TakesWord, row_belongs, belongs_row}
 
 -- the row of a family that takes a word is the word's
 number_in : (f : Family) (w : ℕ) → InFamily f w → word_number w ≡ number_of f
 number_in f w t =
-    belongs-row (mark_of w) (quadrant_of w) (field_a w) (field_b w) (field_c w) (number_of f)
+    belongs_row (mark_of w) (quadrant_of w) (field_a w) (field_b w) (field_c w) (number_of f)
     (record { listed = (own_row f).0; quadrant = t.quadrant; fields = t.fields })
 
 -- and its family is the word's
@@ -55,8 +55,8 @@ module _ (mark q a b c : ℕ) (h : (mark < 2) × (q < 4) × (a < 16) × (b < 16)
   abbrev made : ℕ
   made = word_of mark q a b c
 
-  pub made-small : made < 0x10000
-  made-small = omega arith
+  pub made_small : made < 0x10000
+  made_small = omega arith
 
   apart : (mark ≡ mark_of made) × (q ≡ quadrant_of made) × (a ≡ field_a made) × (b ≡ field_b made) × (c ≡ field_c made)
   apart = (omega arith, omega arith, omega arith, omega arith, omega arith)
@@ -69,35 +69,35 @@ mode_back Byte = refl
 mode_back Word = refl
 
 pub mark_back : (mark : ℕ) → mark < 2 → mark_for (mode_of mark) ≡ mark
-mark_back mark h = by-test (eqb mark 0) refl
+mark_back mark h = by_test (eqb mark 0) refl
   where
-    by-test : (b : Bool) → eqb mark 0 ≡ b → mark_for (pick b Byte Word) ≡ mark
-    by-test true q = sym (eqb-true mark 0 q)
-    by-test false q = omega (arith, eqb-false mark 0 q)
+    by_test : (b : Bool) → eqb mark 0 ≡ b → mark_for (pick b Byte Word) ≡ mark
+    by_test true q = sym (eqb-true mark 0 q)
+    by_test false q = omega (arith, eqb-false mark 0 q)
 
 -- an accepted word gives its instruction, whose word it is
 module _ (w : ℕ) (h : w < 0x10000) (n : Named) (e : decode_of w ≡ accepted n) where
   told : (refusal (word_checks w) ≡ 0) × (named_by w ≡ n)
   unfolding decode_of
-  told = told-accepted (refusal (word_checks w)) (named_by w) n e
+  told = told_accepted (refusal (word_checks w)) (named_by w) n e
 
   free : (leb no_row (word_number w) ≡ false) × (refusal (rule_checks (word_row w) (mark_of w) (field_a w) (field_b w)) ≡ 0)
   free = cleared 7 (leb no_row (word_number w)) (rule_checks (word_row w) (mark_of w) (field_a w) (field_b w)) (λ z. omega arith) told.0
 
   own : TakesWord w (word_number w)
-  own = row-belongs (mark_of w) (quadrant_of w) (field_a w) (field_b w) (field_c w) (leb-false no_row (word_number w) free.0)
+  own = row_belongs (mark_of w) (quadrant_of w) (field_a w) (field_b w) (field_c w) (leb-false no_row (word_number w) free.0)
 
   -- the instruction has the word's fields
-  pub decode-named : named_by w ≡ n
-  decode-named = told.1
+  pub decode_named : named_by w ≡ n
+  decode_named = told.1
 
-  pub encode-decode : encode_of n ≡ accepted w
+  pub encode_decode : encode_of n ≡ accepted w
   unfolding encode_of fill_of
-  encode-decode =
+  encode_decode =
       ap encode_of (sym told.1)
       ∙ ap (λ (i : ℕ). fill_of (row_at i) (mark_for (mode_of (mark_of w))) (field_a w) (field_b w) (field_c w)) (own_number (word_number w) own.listed)
       ∙ ap (λ (m : ℕ). fill_of (word_row w) m (field_a w) (field_b w) (field_c w)) (mark_back (mark_of w) (omega arith))
-      ∙ sym (fill-accepted (word_row w) (mark_of w) (field_a w) (field_b w) (field_c w) true (sym own.fields) refl 0 (sym free.1) refl)
+      ∙ sym (fill_accepted (word_row w) (mark_of w) (field_a w) (field_b w) (field_c w) true (sym own.fields) refl 0 (sym free.1) refl)
       ∙ ap (λ (q : ℕ). accepted (word_of (mark_of w) q (field_a w) (field_b w) (field_c w))) own.quadrant
       ∙ ap accepted (joined w h)
 
@@ -109,46 +109,46 @@ module _ (n : Named) (w : ℕ) (e : encode_of n ≡ accepted w) where
   abbrev mark : ℕ
   mark = mark_for n.mode
 
-  named-told : (refusal (named_checks n) ≡ 0) × (word_for n ≡ w)
+  named_told : (refusal (named_checks n) ≡ 0) × (word_for n ≡ w)
   unfolding encode_of
-  named-told = told-accepted (refusal (named_checks n)) (word_for n) w e
+  named_told = told_accepted (refusal (named_checks n)) (word_for n) w e
 
-  named-free : (not (takes (named_row n) mark n.a n.b n.c) ≡ false) × (refusal (rule_checks (named_row n) mark n.a n.b) ≡ 0)
-  named-free = cleared 7 (not (takes (named_row n) mark n.a n.b n.c)) (rule_checks (named_row n) mark n.a n.b) (λ z. omega arith) named-told.0
+  named_free : (not (takes (named_row n) mark n.a n.b n.c) ≡ false) × (refusal (rule_checks (named_row n) mark n.a n.b) ≡ 0)
+  named_free = cleared 7 (not (takes (named_row n) mark n.a n.b n.c)) (rule_checks (named_row n) mark n.a n.b) (λ z. omega arith) named_told.0
 
-  named-own : Belongs mark (named_row n).quadrant n.a n.b n.c (number_of n.family)
-  named-own = record { listed = (own_row n.family).0; quadrant = refl; fields = not-false (takes (named_row n) mark n.a n.b n.c) named-free.0 }
+  named_own : Belongs mark (named_row n).quadrant n.a n.b n.c (number_of n.family)
+  named_own = record { listed = (own_row n.family).0; quadrant = refl; fields = not-false (takes (named_row n) mark n.a n.b n.c) named_free.0 }
 
   in_range : (mark < 2) × ((named_row n).quadrant < 4) × (n.a < 16) × (n.b < 16) × (n.c < 32)
   in_range =
       let z = narrow (number_of n.family) (own_row n.family).0 in
-      let k = small (named_row n) mark n.a n.b n.c z named-own.fields in
+      let k = small (named_row n) mark n.a n.b n.c z named_own.fields in
       (mark_small n.mode, z.quadrant, k.0, k.1, k.2)
 
   -- its family takes its mode and fields, and its rule holds
-  pub encode-takes : takes (named_row n) mark n.a n.b n.c ≡ true
-  encode-takes = named-own.fields
+  pub encode_takes : takes (named_row n) mark n.a n.b n.c ≡ true
+  encode_takes = named_own.fields
 
-  pub encode-small : w < 0x10000
-  encode-small = subst (λ (w : ℕ). w < 0x10000) named-told.1 (made-small mark (named_row n).quadrant n.a n.b n.c in_range)
+  pub encode_small : w < 0x10000
+  encode_small = subst (λ (w : ℕ). w < 0x10000) named_told.1 (made_small mark (named_row n).quadrant n.a n.b n.c in_range)
 
   abbrev v : ℕ
   v = word_for n
 
-  number-found : number_of n.family ≡ word_number v
-  number-found =
-      sym (belongs-row mark (named_row n).quadrant n.a n.b n.c (number_of n.family) named-own)
+  number_found : number_of n.family ≡ word_number v
+  number_found =
+      sym (belongs_row mark (named_row n).quadrant n.a n.b n.c (number_of n.family) named_own)
       ∙ five row_of mark (named_row n).quadrant n.a n.b n.c (mark_of v) (quadrant_of v) (field_a v) (field_b v) (field_c v)
       (apart mark (named_row n).quadrant n.a n.b n.c in_range)
 
-  pub decode-encode : decode_of w ≡ accepted n
-  decode-encode =
+  pub decode_encode : decode_of w ≡ accepted n
+  decode_encode =
       let i = number_of n.family in
-      ap decode_of (sym named-told.1)
-      ∙ sym (decoded v i number-found)
+      ap decode_of (sym named_told.1)
+      ∙ sym (decoded v i number_found)
       ∙ sym (five (λ m q a b c. answer_at i m a b c) mark (named_row n).quadrant n.a n.b n.c (mark_of v) (quadrant_of v) (field_a v) (field_b v) (field_c v)
       (apart mark (named_row n).quadrant n.a n.b n.c in_range))
-      ∙ answer_accepted i mark n.a n.b n.c named-own.listed named-free.1
+      ∙ answer_accepted i mark n.a n.b n.c named_own.listed named_free.1
       ∙ ap (λ (d : Mode). accepted (record { family = (named_row n).family; mode = d; a = n.a; b = n.b; c = n.c })) (mode_back n.mode)
       ∙ ap (λ (f : Family). accepted (record { family = f; mode = n.mode; a = n.a; b = n.b; c = n.c })) (own_row n.family).1
 
@@ -169,7 +169,7 @@ named_answered n =
 
 -- a number's condition, said of what is told
 exactly_told : {A : Type 0} (k j : ℕ) (x : A) {P : Type 0} → (j ≡ k) ↔ P → ((tells j x).number ≡ k) ↔ P
-exactly_told k j x h = rw (told-number j x) h
+exactly_told k j x h = rw (told_number j x) h
 
 -- no check of a list holds: its first does not, and none of the rest
 none_holds : (k : ℕ) (b : Bool) (xs : List Check) → T (clear (check k b ∷ xs)) ↔ ((b ≡ false) × T (clear xs))
@@ -181,19 +181,19 @@ module _ (seven eight nine : Bool) where
   abbrev checks : List Check
   checks = check 7 seven ∷ check 8 eight ∷ check 9 nine ∷ []
 
-  by-seven : (refusal checks ≡ 7) ↔ (seven ≡ true)
-  by-seven =
+  by_seven : (refusal checks ≡ 7) ↔ (seven ≡ true)
+  by_seven =
       let e = exactly 7 seven (check 8 eight ∷ check 9 nine ∷ []) (positive 7 tt) tt [] tt in
       (λ h. (e.0 h).1, λ h. e.1 (tt, h))
 
-  by-eight : (refusal checks ≡ 8) ↔ ((seven ≡ false) × (eight ≡ true))
-  by-eight =
+  by_eight : (refusal checks ≡ 8) ↔ ((seven ≡ false) × (eight ≡ true))
+  by_eight =
       let e = exactly 8 eight (check 9 nine ∷ []) (positive 8 tt) tt (check 7 seven ∷ []) tt in
       let one = none_holds 7 seven [] in
       (λ h. ((one.0 (e.0 h).0).0, (e.0 h).1), λ h. e.1 (one.1 (h.0, tt), h.1))
 
-  by-nine : (refusal checks ≡ 9) ↔ ((seven ≡ false) × (eight ≡ false) × (nine ≡ true))
-  by-nine =
+  by_nine : (refusal checks ≡ 9) ↔ ((seven ≡ false) × (eight ≡ false) × (nine ≡ true))
+  by_nine =
       let e = exactly 9 nine [] (positive 9 tt) tt (check 7 seven ∷ check 8 eight ∷ []) tt in
       let two = none_holds 7 seven (check 8 eight ∷ []) in
       let one = none_holds 8 eight [] in
@@ -205,31 +205,31 @@ past_all i j n e l h = omega arith
 -- a word gets 7, 8 or 9 exactly when its condition holds and no earlier one does
 module _ (w : ℕ) where
   -- a listed word is taken by its row's family, whose row is that row, and by no other
-  in-own : leb no_row (word_number w) ≡ false → InFamily (word_row w).family w
-  in-own e =
+  in_own : leb no_row (word_number w) ≡ false → InFamily (word_row w).family w
+  in_own e =
       let h = leb-false no_row (word_number w) e in
-      let own = subst (λ (i : ℕ). TakesWord w i) (sym (own_number (word_number w) h)) (row-belongs (mark_of w) (quadrant_of w) (field_a w) (field_b w) (field_c w) h) in
+      let own = subst (λ (i : ℕ). TakesWord w i) (sym (own_number (word_number w) h)) (row_belongs (mark_of w) (quadrant_of w) (field_a w) (field_b w) (field_c w) h) in
       record { quadrant = own.quadrant; fields = own.fields }
 
-  own-family : (P : Row → Type 0) → leb no_row (word_number w) ≡ false → P (word_row w) → P (row_at (number_of (word_row w).family))
-  own-family P e = subst (λ (i : ℕ). P (row_at i)) (sym (own_number (word_number w) (leb-false no_row (word_number w) e)))
+  own_family : (P : Row → Type 0) → leb no_row (word_number w) ≡ false → P (word_row w) → P (row_at (number_of (word_row w).family))
+  own_family P e = subst (λ (i : ℕ). P (row_at i)) (sym (own_number (word_number w) (leb-false no_row (word_number w) e)))
 
-  family-own : (P : Row → Type 0) (f : Family) → InFamily f w → P (row_at (number_of f)) → P (word_row w)
-  family-own P f t = subst (λ (i : ℕ). P (row_at i)) (sym (number_in f w t))
+  family_own : (P : Row → Type 0) (f : Family) → InFamily f w → P (row_at (number_of f)) → P (word_row w)
+  family_own P f t = subst (λ (i : ℕ). P (row_at i)) (sym (number_in f w t))
 
-  taken-listed : (f : Family) → InFamily f w → leb no_row (word_number w) ≡ false
-  taken-listed f t = by-test (leb no_row (word_number w)) refl
+  taken_listed : (f : Family) → InFamily f w → leb no_row (word_number w) ≡ false
+  taken_listed f t = by_test (leb no_row (word_number w)) refl
     where
-      by-test : (b : Bool) → leb no_row (word_number w) ≡ b → b ≡ false
-      by-test true q = absurd (past_all (word_number w) (number_of f) no_row (number_in f w t) (leb-true no_row (word_number w) q) (own_row f).0)
-      by-test false q = refl
+      by_test : (b : Bool) → leb no_row (word_number w) ≡ b → b ≡ false
+      by_test true q = absurd (past_all (word_number w) (number_of f) no_row (number_in f w t) (leb-true no_row (word_number w) q) (own_row f).0)
+      by_test false q = refl
 
-  all-unlisted : ((f : Family) → InFamily f w → ⊥) → leb no_row (word_number w) ≡ true
-  all-unlisted n = by-test (leb no_row (word_number w)) refl
+  all_unlisted : ((f : Family) → InFamily f w → ⊥) → leb no_row (word_number w) ≡ true
+  all_unlisted n = by_test (leb no_row (word_number w)) refl
     where
-      by-test : (b : Bool) → leb no_row (word_number w) ≡ b → b ≡ true
-      by-test true q = refl
-      by-test false q = absurd (n (word_row w).family (in-own q))
+      by_test : (b : Bool) → leb no_row (word_number w) ≡ b → b ≡ true
+      by_test true q = refl
+      by_test false q = absurd (n (word_row w).family (in_own q))
 
   abbrev unlisted : Bool
   unlisted = leb no_row (word_number w)
@@ -241,31 +241,31 @@ module _ (w : ℕ) where
   high r = bit_too_high r (mark_of w) (field_a w)
 
   -- 7: no family takes the word
-  pub word-seven : ((decode_of w).number ≡ 7) ↔ ((f : Family) → InFamily f w → ⊥)
+  pub word_seven : ((decode_of w).number ≡ 7) ↔ ((f : Family) → InFamily f w → ⊥)
   unfolding decode_of
-  word-seven =
-      let e = by-seven unlisted (twice (word_row w)) (high (word_row w)) in
-      exactly_told 7 (refusal (word_checks w)) (named_by w) (λ h f t. never (sym (taken-listed f t) ∙ e.0 h), λ n. e.1 (all-unlisted n))
+  word_seven =
+      let e = by_seven unlisted (twice (word_row w)) (high (word_row w)) in
+      exactly_told 7 (refusal (word_checks w)) (named_by w) (λ h f t. never (sym (taken_listed f t) ∙ e.0 h), λ n. e.1 (all_unlisted n))
 
   -- 8: a family takes it, and its rule about ACC is broken
-  pub word-eight : ((decode_of w).number ≡ 8) ↔ ((f : Family) × InFamily f w × (acc_twice (row_at (number_of f)) (field_a w) (field_b w) ≡ true))
+  pub word_eight : ((decode_of w).number ≡ 8) ↔ ((f : Family) × InFamily f w × (acc_twice (row_at (number_of f)) (field_a w) (field_b w) ≡ true))
   unfolding decode_of
-  word-eight =
-      let e = by-eight unlisted (twice (word_row w)) (high (word_row w)) in
+  word_eight =
+      let e = by_eight unlisted (twice (word_row w)) (high (word_row w)) in
       exactly_told 8 (refusal (word_checks w)) (named_by w) (
-        λ h. ((word_row w).family, in-own (e.0 h).0, own-family (λ r. twice r ≡ true) (e.0 h).0 (e.0 h).1),
-        λ b. e.1 (taken-listed b.0 b.1, family-own (λ r. twice r ≡ true) b.0 b.1 b.2),
+        λ h. ((word_row w).family, in_own (e.0 h).0, own_family (λ r. twice r ≡ true) (e.0 h).0 (e.0 h).1),
+        λ b. e.1 (taken_listed b.0 b.1, family_own (λ r. twice r ≡ true) b.0 b.1 b.2),
       )
 
   -- 9: a family takes it, the rule about ACC is not broken, and the one about n is
-  pub word-nine : ((decode_of w).number ≡ 9)
+  pub word_nine : ((decode_of w).number ≡ 9)
       ↔ ((f : Family) × InFamily f w × (acc_twice (row_at (number_of f)) (field_a w) (field_b w) ≡ false) × (bit_too_high (row_at (number_of f)) (mark_of w) (field_a w) ≡ true))
   unfolding decode_of
-  word-nine =
-      let e = by-nine unlisted (twice (word_row w)) (high (word_row w)) in
+  word_nine =
+      let e = by_nine unlisted (twice (word_row w)) (high (word_row w)) in
       exactly_told 9 (refusal (word_checks w)) (named_by w) (
-        λ h. ((word_row w).family, in-own (e.0 h).0, own-family (λ r. twice r ≡ false) (e.0 h).0 (e.0 h).1, own-family (λ r. high r ≡ true) (e.0 h).0 (e.0 h).2),
-        λ b. e.1 (taken-listed b.0 b.1, family-own (λ r. twice r ≡ false) b.0 b.1 b.2, family-own (λ r. high r ≡ true) b.0 b.1 b.3),
+        λ h. ((word_row w).family, in_own (e.0 h).0, own_family (λ r. twice r ≡ false) (e.0 h).0 (e.0 h).1, own_family (λ r. high r ≡ true) (e.0 h).0 (e.0 h).2),
+        λ b. e.1 (taken_listed b.0 b.1, family_own (λ r. twice r ≡ false) b.0 b.1 b.2, family_own (λ r. high r ≡ true) b.0 b.1 b.3),
       )
 
 -- and so does a named instruction
@@ -280,27 +280,27 @@ module _ (n : Named) where
   bit = bit_too_high (named_row n) (mark_for n.mode) n.a
 
   -- 7: its family does not take its mode and fields
-  pub named-seven : ((encode_of n).number ≡ 7) ↔ (takes (named_row n) (mark_for n.mode) n.a n.b n.c ≡ false)
+  pub named_seven : ((encode_of n).number ≡ 7) ↔ (takes (named_row n) (mark_for n.mode) n.a n.b n.c ≡ false)
   unfolding encode_of
-  named-seven =
-      let e = by-seven (not listed) acc bit in
+  named_seven =
+      let e = by_seven (not listed) acc bit in
       exactly_told 7 (refusal (named_checks n)) (word_for n) (λ h. not-true listed (e.0 h), λ h. e.1 (ap not h))
 
   -- 8: its family takes them, and its rule about ACC is broken
-  pub named-eight : ((encode_of n).number ≡ 8)
+  pub named_eight : ((encode_of n).number ≡ 8)
       ↔ (Listed n × (acc_twice (named_row n) n.a n.b ≡ true))
   unfolding encode_of
-  named-eight =
-      let e = by-eight (not listed) acc bit in
+  named_eight =
+      let e = by_eight (not listed) acc bit in
       exactly_told 8 (refusal (named_checks n)) (word_for n) (λ h. (not-false listed (e.0 h).0, (e.0 h).1), λ h. e.1 (ap not h.0, h.1))
 
   -- 9: its family takes them, the rule about ACC is not broken, and the one about n is
-  pub named-nine : ((encode_of n).number ≡ 9)
+  pub named_nine : ((encode_of n).number ≡ 9)
       ↔ (Listed n × (acc_twice (named_row n) n.a n.b ≡ false)
       × (bit_too_high (named_row n) (mark_for n.mode) n.a ≡ true))
   unfolding encode_of
-  named-nine =
-      let e = by-nine (not listed) acc bit in
+  named_nine =
+      let e = by_nine (not listed) acc bit in
       exactly_told 9 (refusal (named_checks n)) (word_for n) (λ h. (not-false listed (e.0 h).0, (e.0 h).1, (e.0 h).2), λ h. e.1 (ap not h.0, h.1, h.2))
 
 -- a word that a family takes, and the instruction that it names: that one is of the list too, and gets the same number
@@ -308,39 +308,39 @@ module _ (f : Family) (w : ℕ) (h : w < 0x10000) (t : InFamily f w) where
   row_in : named_row (named_by w) ≡ word_row w
   row_in = ap (λ (f : Family). row_at (number_of f)) (family_in f w t) ∙ ap row_at (sym (number_in f w t))
 
-  mark-in : mark_for (mode_of (mark_of w)) ≡ mark_of w
-  mark-in = mark_back (mark_of w) (omega arith)
+  mark_in : mark_for (mode_of (mark_of w)) ≡ mark_of w
+  mark_in = mark_back (mark_of w) (omega arith)
 
   pub named_in : takes (named_row (named_by w)) (mark_for (mode_of (mark_of w))) (field_a w) (field_b w) (field_c w) ≡ true
   named_in =
       ap (λ (r : Row). takes r (mark_for (mode_of (mark_of w))) (field_a w) (field_b w) (field_c w)) row_in
-      ∙ ap (λ (m : ℕ). takes (word_row w) m (field_a w) (field_b w) (field_c w)) mark-in
+      ∙ ap (λ (m : ℕ). takes (word_row w) m (field_a w) (field_b w) (field_c w)) mark_in
       ∙ ap (λ (i : ℕ). takes (row_at i) (mark_of w) (field_a w) (field_b w) (field_c w)) (number_in f w t)
       ∙ t.fields
 
-  pub number-of-named : (encode_of (named_by w)).number ≡ (decode_of w).number
+  pub number_of_named : (encode_of (named_by w)).number ≡ (decode_of w).number
   unfolding encode_of decode_of
-  number-of-named =
+  number_of_named =
       let m = mark_for (mode_of (mark_of w)) in
-      told-number (refusal (named_checks (named_by w))) (word_for (named_by w))
+      told_number (refusal (named_checks (named_by w))) (word_for (named_by w))
       ∙ passed 7 (not (takes (named_row (named_by w)) m (field_a w) (field_b w) (field_c w))) (rule_checks (named_row (named_by w)) m (field_a w) (field_b w)) (ap not named_in)
       ∙ ap (λ (r : Row). refusal (rule_checks r m (field_a w) (field_b w))) row_in
-      ∙ ap (λ (m : ℕ). refusal (rule_checks (word_row w) m (field_a w) (field_b w))) mark-in
-      ∙ sym (passed 7 (leb no_row (word_number w)) (rule_checks (word_row w) (mark_of w) (field_a w) (field_b w)) (taken-listed w f t))
-      ∙ sym (told-number (refusal (word_checks w)) (named_by w))
+      ∙ ap (λ (m : ℕ). refusal (rule_checks (word_row w) m (field_a w) (field_b w))) mark_in
+      ∙ sym (passed 7 (leb no_row (word_number w)) (rule_checks (word_row w) (mark_of w) (field_a w) (field_b w)) (taken_listed w f t))
+      ∙ sym (told_number (refusal (word_checks w)) (named_by w))
 
 -- what an answer tells fixes the answer
 decoded_one : (r s : Decoded) → decoded_tells r ≡ decoded_tells s → r ≡ s
-decoded_one (Decoded.Accepted x) (Decoded.Accepted y) e = ap Decoded.Accepted (accepted-one x y e)
-decoded_one (Decoded.Accepted x) (Decoded.Refused k) e = absurd (accepted-refused x k e)
-decoded_one (Decoded.Refused k) (Decoded.Accepted x) e = absurd (accepted-refused x k (sym e))
-decoded_one (Decoded.Refused j) (Decoded.Refused k) e = ap Decoded.Refused (refused-one {A = Named} j k e)
+decoded_one (Decoded.Accepted x) (Decoded.Accepted y) e = ap Decoded.Accepted (accepted_one x y e)
+decoded_one (Decoded.Accepted x) (Decoded.Refused k) e = absurd (accepted_refused x k e)
+decoded_one (Decoded.Refused k) (Decoded.Accepted x) e = absurd (accepted_refused x k (sym e))
+decoded_one (Decoded.Refused j) (Decoded.Refused k) e = ap Decoded.Refused (refused_one {A = Named} j k e)
 
 encoded_one : (r s : Encoded) → encoded_tells r ≡ encoded_tells s → r ≡ s
-encoded_one (Encoded.Accepted x) (Encoded.Accepted y) e = ap Encoded.Accepted (accepted-one x y e)
-encoded_one (Encoded.Accepted x) (Encoded.Refused k) e = absurd (accepted-refused x k e)
-encoded_one (Encoded.Refused k) (Encoded.Accepted x) e = absurd (accepted-refused x k (sym e))
-encoded_one (Encoded.Refused j) (Encoded.Refused k) e = ap Encoded.Refused (refused-one {A = ℕ} j k e)
+encoded_one (Encoded.Accepted x) (Encoded.Accepted y) e = ap Encoded.Accepted (accepted_one x y e)
+encoded_one (Encoded.Accepted x) (Encoded.Refused k) e = absurd (accepted_refused x k e)
+encoded_one (Encoded.Refused k) (Encoded.Accepted x) e = absurd (accepted_refused x k (sym e))
+encoded_one (Encoded.Refused j) (Encoded.Refused k) e = ap Encoded.Refused (refused_one {A = ℕ} j k e)
 
 -- no two outcomes satisfy the statement of a call
 pub decode_unique : (w : ℕ) (r s : Decoded) → decoded_tells r ≡ decode_of w → decoded_tells s ≡ decode_of w → r ≡ s

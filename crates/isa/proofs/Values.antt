@@ -16,8 +16,8 @@ past n s k h l =
     sym (ne_eqb (s / 2 ^ k % 2) 1 (λ e. let q : 0 ≡ 1 = sym (ap (λ (x : ℕ). x % 2) z) ∙ e in omega arith))
 
 pub within : (n s k : ℕ) → s < 2 ^ n → has s k ≡ true → k < n
-within n s k h t = by-test (ltb k n) refl
+within n s k h t = by_test (ltb k n) refl
   where
-    by-test : (b : Bool) → ltb k n ≡ b → k < n
-    by-test true q = ltb-true k n q
-    by-test false q = absurd (never (past n s k h (ltb-false k n q) ∙ t))
+    by_test : (b : Bool) → ltb k n ≡ b → k < n
+    by_test true q = ltb-true k n q
+    by_test false q = absurd (never (past n s k h (ltb-false k n q) ∙ t))

@@ -52,19 +52,19 @@ cycle_line_le number y mask ct t h = rw (length-append (decimal number)) (omega 
 
 pub state_line_le : (r : Registers) → length (state_line r) ≤ 32
 unfolding hex state_line
-state_line_le r = by-waiting r.waiting
+state_line_le r = by_waiting r.waiting
   where
-    by-waiting : (w : Waiting) → length (state_line (record { ram = r.ram; acc = r.acc; latch = r.latch; status = r.status; waiting = w })) ≤ 32
-    by-waiting Nothing = omega arith
-    by-waiting (Held w) = omega arith
+    by_waiting : (w : Waiting) → length (state_line (record { ram = r.ram; acc = r.acc; latch = r.latch; status = r.status; waiting = w })) ≤ 32
+    by_waiting Nothing = omega arith
+    by_waiting (Held w) = omega arith
 
 pub register_line_le : (number value : ℕ) → length (register_line number value) ≤ 9
 unfolding hex register_line
-register_line_le number value = by-test (eqb value 0)
+register_line_le number value = by_test (eqb value 0)
   where
-    by-test : (b : Bool) → length (pick b [] (line_of (114 ∷ numeral 10 2 number) (hex 4 value ∷ []))) ≤ 9
-    by-test true = omega arith
-    by-test false = omega arith
+    by_test : (b : Bool) → length (pick b [] (line_of (114 ∷ numeral 10 2 number) (hex 4 value ∷ []))) ≤ 9
+    by_test true = omega arith
+    by_test false = omega arith
 
 pub word_refused_line_le : (number : ℕ) → length (word_refused_line number) ≤ 29
 unfolding word_refused_line
@@ -88,14 +88,14 @@ words_text_long (x ∷ words) = rw (length-append (hex 4 x ++ after_word words �
 
 pub words_line_le : (words : List ℕ) (i : ℕ) → length (words_line words i) ≤ 15
 unfolding words_line
-words_line_le words i = by-test (ltb i (length words / words_per_line))
+words_line_le words i = by_test (ltb i (length words / words_per_line))
   where
     line : List ℕ
     line = take words_per_line (drop (words_per_line * i) words)
 
-    by-test : (b : Bool) → length (pick b (words_text line) []) ≤ 15
-    by-test true = rw (words_text_long line) (simp length-take (omega arith))
-    by-test false = omega arith
+    by_test : (b : Bool) → length (pick b (words_text line) []) ≤ 15
+    by_test true = rw (words_text_long line) (simp length-take (omega arith))
+    by_test false = omega arith
 
 expected_le : (e : Expected) → length (expected_text e) ≤ 20
 expected_le Digit = omega arith

@@ -9,7 +9,7 @@ use lib.ListN.{length, take, drop, set, length-append, length-set}
 use lib.Seq.{append_snoc, take-suc-set, drop-set-lt, drop-drop}
 use borrow.Rule.Slice.PartMut.{drop_put}
 use Rattle.choice.specs.Text.{blank}
-use Rattle.choice.proofs.Filling.{middle-take, middle-long}
+use Rattle.choice.proofs.Filling.{middle_take, middle_long}
 use Rattle.lines.specs.declared.Line.{Line}
 use Rattle.lines.specs.Answers.{Makes}
 use Rattle.lines.specs.Putting.{Puts}
@@ -21,18 +21,18 @@ later x y p n r e q = rw (q, ← drop-drop n p x, ← drop-drop n p y, e)
 
 -- text put through &mut line[at..end]: `made` is what the callee left there
 module _ (line made text : List ℕ) (at end : ℕ) (same : made ≡ text) (e : end ≡ at + length text) (h : end ≤ length line) where
-  pub puts-part : Puts text at end line (take at line ++ (made ++ drop (end - at) (drop at line)))
-  puts-part = record {
+  pub puts_part : Puts text at end line (take at line ++ (made ++ drop (end - at) (drop at line)))
+  puts_part = record {
     end = e;
-    put = middle-take line made at end (omega arith) h size ∙ ap (λ (l : List ℕ). take at line ++ l) same;
+    put = middle_take line made at end (omega arith) h size ∙ ap (λ (l : List ℕ). take at line ++ l) same;
     rest = drop_put at end line made (omega arith) h size;
   }
     where
       size : length made ≡ end - at
       size = rw same (omega arith)
 
-  pub part-long : length (take at line ++ (made ++ drop (end - at) (drop at line))) ≡ length line
-  part-long = middle-long line made at end (omega arith) h (rw same (omega arith))
+  pub part_long : length (take at line ++ (made ++ drop (end - at) (drop at line))) ≡ length line
+  part_long = middle_long line made at end (omega arith) h (rw same (omega arith))
 
 -- and a byte after it
 pub puts_last : (text : List ℕ) (at end last : ℕ) (before after : List ℕ) → Puts text at end before after → end < length after

@@ -10,7 +10,7 @@ use Rattle.run.specs.declared.Ending.TheVariants.{Done, Refused}
 use Rattle.run.specs.declared.Ran.{Ran}
 use Rattle.lines.specs.Lines.{cycle_line, state_line, register_line, refused_line, last_line}
 use Rattle.lines.specs.Pages.{report_line, lines_from, page_of}
-use Rattle.lines.proofs.Paged.{length-lines}
+use Rattle.lines.proofs.Paged.{length_lines}
 
 -- ACC 1200, status 03, and else 0
 abbrev ended : Registers
@@ -47,4 +47,4 @@ last_lines = (refl, refl)
 -- a page has the accepted cycles' lines and 34 more
 pub page_length : (r : Ran) (reports : List ℕ) → length (page_of r reports) ≡ r.accepted + 34
 unfolding page_of
-page_length r reports = length-append (lines_from (report_line reports) 0 r.accepted) _ ∙ ap (λ (n : ℕ). n + 34) (length-lines (report_line reports) 0 r.accepted)
+page_length r reports = length-append (lines_from (report_line reports) 0 r.accepted) _ ∙ ap (λ (n : ℕ). n + 34) (length_lines (report_line reports) 0 r.accepted)

@@ -29,17 +29,17 @@ spell_step base (suc n) rest d part p h e =
 
 -- the loop that passes over zeros in front: a turn, and its two ends
 module _ (text : List ℕ) (i : ℕ) where
-  next-two : i + 1 < length text → drop i text ≡ get_or text i 0 ∷ get_or text (suc i) 0 ∷ drop (suc (suc i)) text
-  next-two h = drop-cons text i 0 (omega arith) ∙ ap (λ (l : List ℕ). get_or text i 0 ∷ l) (drop-cons text (suc i) 0 (omega arith))
+  next_two : i + 1 < length text → drop i text ≡ get_or text i 0 ∷ get_or text (suc i) 0 ∷ drop (suc (suc i)) text
+  next_two h = drop-cons text i 0 (omega arith) ∙ ap (λ (l : List ℕ). get_or text i 0 ∷ l) (drop-cons text (suc i) 0 (omega arith))
 
-  pub zero-passed : i + 1 < length text → get_or text i 0 ≡ 48 → trimmed (drop (i + 1) text) ≡ trimmed (drop i text)
-  zero-passed h e = rw (next-two h, add-one, drop-cons text (suc i) 0 (omega arith), eq-eqb (get_or text i 0) 48 e)
+  pub zero_passed : i + 1 < length text → get_or text i 0 ≡ 48 → trimmed (drop (i + 1) text) ≡ trimmed (drop i text)
+  zero_passed h e = rw (next_two h, add-one, drop-cons text (suc i) 0 (omega arith), eq-eqb (get_or text i 0) 48 e)
 
-  pub digit-stops : i + 1 < length text → (get_or text i 0 ≡ 48 → ⊥) → drop i text ≡ trimmed (drop i text)
-  digit-stops h n = rw (next-two h, ne_eqb (get_or text i 0) 48 n)
+  pub digit_stops : i + 1 < length text → (get_or text i 0 ≡ 48 → ⊥) → drop i text ≡ trimmed (drop i text)
+  digit_stops h n = rw (next_two h, ne_eqb (get_or text i 0) 48 n)
 
-  pub last-stops : i < length text → length text ≤ i + 1 → drop i text ≡ trimmed (drop i text)
-  last-stops h g =
+  pub last_stops : i < length text → length text ≤ i + 1 → drop i text ≡ trimmed (drop i text)
+  last_stops h g =
       let p : length text ≤ suc i = omega arith in
       rw (drop-cons text i 0 h, drop_of_length-le text p)
 
@@ -56,9 +56,9 @@ copy_done text part i e h =
 -- a decimal number has 1 to 20 digits
 pub length_trimmed : (d : ℕ) (digits : List ℕ) → (1 ≤ length (trimmed (d ∷ digits))) × (length (trimmed (d ∷ digits)) ≤ length (d ∷ digits))
 length_trimmed d [] = (omega arith, omega arith)
-length_trimmed d (e ∷ digits) = by-test (eqb d 48) (length_trimmed e digits)
+length_trimmed d (e ∷ digits) = by_test (eqb d 48) (length_trimmed e digits)
   where
-    by-test : (b : Bool) → (1 ≤ length (trimmed (e ∷ digits))) × (length (trimmed (e ∷ digits)) ≤ suc (length digits))
+    by_test : (b : Bool) → (1 ≤ length (trimmed (e ∷ digits))) × (length (trimmed (e ∷ digits)) ≤ suc (length digits))
         → (1 ≤ length (pick b (trimmed (e ∷ digits)) (d ∷ e ∷ digits))) × (length (pick b (trimmed (e ∷ digits)) (d ∷ e ∷ digits)) ≤ suc (suc (length digits)))
-    by-test true h = (h.0, omega (arith, h.1))
-    by-test false h = (omega arith, omega arith)
+    by_test true h = (h.0, omega (arith, h.1))
+    by_test false h = (omega arith, omega arith)

@@ -30,13 +30,13 @@ module _ (n : ℕ) where
       less_one : n < 1 → n ≡ 0
       less_one l = omega arith
 
-  pub only-ten : 4 < n → n < 11 → (((((Unit {0} × (n ≡ 5 → ⊥)) × (n ≡ 6 → ⊥)) × (n ≡ 7 → ⊥)) × (n ≡ 8 → ⊥)) × (n ≡ 9 → ⊥)) → n ≡ 10
-  only-ten h g r =
+  pub only_ten : 4 < n → n < 11 → (((((Unit {0} × (n ≡ 5 → ⊥)) × (n ≡ 6 → ⊥)) × (n ≡ 7 → ⊥)) × (n ≡ 8 → ⊥)) × (n ≡ 9 → ⊥)) → n ≡ 10
+  only_ten h g r =
       let last : 9 < n = above 8 (above 7 (above 6 (above 5 (above 4 h r.0.0.0.0.1) r.0.0.0.1) r.0.0.1) r.0.1) r.1 in
       between last g
     where
       between : 9 < n → n < 11 → n ≡ 10
       between l k = omega arith
 
-  pub past-fourteen : 10 < n → ((((Unit {0} × (n ≡ 11 → ⊥)) × (n ≡ 12 → ⊥)) × (n ≡ 13 → ⊥)) × (n ≡ 14 → ⊥)) → 14 < n
-  past-fourteen h r = above 13 (above 12 (above 11 (above 10 h r.0.0.0.1) r.0.0.1) r.0.1) r.1
+  pub past_fourteen : 10 < n → ((((Unit {0} × (n ≡ 11 → ⊥)) × (n ≡ 12 → ⊥)) × (n ≡ 13 → ⊥)) × (n ≡ 14 → ⊥)) → 14 < n
+  past_fourteen h r = above 13 (above 12 (above 11 (above 10 h r.0.0.0.1) r.0.0.1) r.0.1) r.1

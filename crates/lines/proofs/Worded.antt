@@ -24,13 +24,13 @@ pub record Worded (words start line : List ℕ) (at i : ℕ) : Type 0 where
   pub rest : drop at line ≡ drop at start
 
 after_last : (words : List ℕ) (i : ℕ) → pick (ltb (i + 1) (length words)) blank newline ≡ after_word (drop (suc i) words)
-after_last words i = by-test (ltb (i + 1) (length words)) refl
+after_last words i = by_test (ltb (i + 1) (length words)) refl
   where
-    by-test : (b : Bool) → ltb (i + 1) (length words) ≡ b → pick b blank newline ≡ after_word (drop (suc i) words)
-    by-test true e =
+    by_test : (b : Bool) → ltb (i + 1) (length words) ≡ b → pick b blank newline ≡ after_word (drop (suc i) words)
+    by_test true e =
         let h : suc i < length words = omega (arith, ltb-true (i + 1) (length words) e) in
         rw (drop-cons words (suc i) 0 h)
-    by-test false e =
+    by_test false e =
         let h : length words ≤ suc i = omega (arith, ltb-false (i + 1) (length words) e) in
         rw (drop_of_length-le words h)
 

@@ -74,11 +74,11 @@ put_turn out all i n k h z e =
 pub bytes_short : (n k : ℕ) → length (bytes_of n k) ≤ n
 unfolding bytes_of
 bytes_short zero k = omega arith
-bytes_short (suc n) k = by-test (eqb k 0) (bytes_short n (k / 256))
+bytes_short (suc n) k = by_test (eqb k 0) (bytes_short n (k / 256))
   where
-    by-test : (b : Bool) → length (bytes_of n (k / 256)) ≤ n → length (pick b [] (k % 256 ∷ bytes_of n (k / 256))) ≤ suc n
-    by-test true h = omega arith
-    by-test false h = omega arith
+    by_test : (b : Bool) → length (bytes_of n (k / 256)) ≤ n → length (pick b [] (k % 256 ∷ bytes_of n (k / 256))) ≤ suc n
+    by_test true h = omega arith
+    by_test false h = omega arith
 
 pub text_short : (k : ℕ) → length (text_of_key k) ≤ 8
 text_short k = rw (text_of_lem k) (bytes_short 8 k)
@@ -94,11 +94,11 @@ some_key k z = rw (ne_eqb k 0 z)
 
 pub after_short : (k : ℕ) → length (after_blank k) ≤ 9
 unfolding after_blank
-after_short k = by-test (eqb k 0)
+after_short k = by_test (eqb k 0)
   where
-    by-test : (b : Bool) → length (pick b [] (blank ∷ text_of_key k)) ≤ 9
-    by-test true = omega arith
-    by-test false = omega (arith, text_short k)
+    by_test : (b : Bool) → length (pick b [] (blank ∷ text_of_key k)) ≤ 9
+    by_test true = omega arith
+    by_test false = omega (arith, text_short k)
 
 pub line_long : (k : Keys) → length (keys_line k) ≡ length (text_of_key k.family) + length (after_blank k.mode) + length (after_blank k.a) + length (after_blank k.b) + length (after_blank k.c)
 line_long k = simp length-append (omega arith)
@@ -122,8 +122,8 @@ module _ (k : Keys) (s₀ : List ℕ) (room : length (keys_line k) ≤ length s�
   room_0 = omega (arith, line_long k)
 
   module _ (r₁ : ℕ) (s₁ : List ℕ) (p₁ : PutAt (text_of_key k.family) 0 r₁ s₀ s₁) where
-    pub room-1 : r₁ + length (after_blank k.mode) ≤ length s₁
-    room-1 = omega (arith, line_long k, p₁.next, puts_long p₁)
+    pub room_1 : r₁ + length (after_blank k.mode) ≤ length s₁
+    room_1 = omega (arith, line_long k, p₁.next, puts_long p₁)
 
     module _ (r₂ : ℕ) (s₂ : List ℕ) (p₂ : PutAt (after_blank k.mode) r₁ r₂ s₁ s₂) where
       pub room-2 : r₂ + length (after_blank k.a) ≤ length s₂

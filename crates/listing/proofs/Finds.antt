@@ -13,7 +13,7 @@ use borrow.Author.Tests.{eqb-true, eqb-false, eq-eqb, ne_eqb, ltb-true, ltb-fals
 use Rattle.choice.specs.Pick.{pick}
 use Rattle.choice.specs.Tells.{Placed, refused_at}
 use Rattle.choice.proofs.Spans.{both, never}
-use Rattle.choice.proofs.Decisions.{along, along-by}
+use Rattle.choice.proofs.Decisions.{along, along_by}
 use Rattle.choice.specs.Along.{Along}
 use Rattle.isa.specs.Sets.{has}
 use Rattle.listing.specs.declared.Next.{Next}
@@ -29,41 +29,41 @@ use Rattle.listing.proofs.Bytes.{proper, proper_first}
 use Rattle.listing.proofs.Tables.{every, fits, fits_proper, fits_small, same_text_lem}
 
 more_some : (b k : ℕ) → one_more b k ≡ 0 → ⊥
-more_some b k e = by-test (eqb b 0) (ltb b 256) (ltb k 0x100000000000000) refl e
+more_some b k e = by_test (eqb b 0) (ltb b 256) (ltb k 0x100000000000000) refl e
   where
-    by-test : (z s l : Bool) → eqb b 0 ≡ z → pick z no_key (pick s (pick l (b + 256 * k) no_key) no_key) ≡ 0 → ⊥
-    by-test true s l q e = omega arith
-    by-test false false l q e = omega arith
-    by-test false true false q e = omega arith
-    by-test false true true q e = omega (arith, eqb-false b 0 q)
+    by_test : (z s l : Bool) → eqb b 0 ≡ z → pick z no_key (pick s (pick l (b + 256 * k) no_key) no_key) ≡ 0 → ⊥
+    by_test true s l q e = omega arith
+    by_test false false l q e = omega arith
+    by_test false true false q e = omega arith
+    by_test false true true q e = omega (arith, eqb-false b 0 q)
 
 same_digits : (a b p k : ℕ) → a ≡ b → eqb (a + 256 * p) (b + 256 * k) ≡ eqb p k
-same_digits a b p k e = by-test (eqb p k) refl
+same_digits a b p k e = by_test (eqb p k) refl
   where
-    by-test : (t : Bool) → eqb p k ≡ t → eqb (a + 256 * p) (b + 256 * k) ≡ t
-    by-test true q = eq-eqb (a + 256 * p) (b + 256 * k) (omega (arith, eqb-true p k q))
-    by-test false q = ne_eqb (a + 256 * p) (b + 256 * k) (λ (z : a + 256 * p ≡ b + 256 * k). eqb-false p k q (omega arith))
+    by_test : (t : Bool) → eqb p k ≡ t → eqb (a + 256 * p) (b + 256 * k) ≡ t
+    by_test true q = eq-eqb (a + 256 * p) (b + 256 * k) (omega (arith, eqb-true p k q))
+    by_test false q = ne_eqb (a + 256 * p) (b + 256 * k) (λ (z : a + 256 * p ≡ b + 256 * k). eqb-false p k q (omega arith))
 
 module _ (a b p k : ℕ) (s : Bool) (a₀ : 0 < a) (a₁ : a < 256) (small : a + 256 * p < no_key) (rest : eqb p k ≡ s) where
   other_text : (a ≡ b → ⊥) → false ≡ elim (eqb a b) [ true ↦ s | false ↦ false ]
   other_text n = rw (ne_eqb a b n)
 
-  none-text : 0x100000000000000 ≤ k → false ≡ elim (eqb a b) [ true ↦ s | false ↦ false ]
-  none-text h = by-test (eqb a b)
+  none_text : 0x100000000000000 ≤ k → false ≡ elim (eqb a b) [ true ↦ s | false ↦ false ]
+  none_text h = by_test (eqb a b)
     where
-      by-test : (t : Bool) → false ≡ elim t [ true ↦ s | false ↦ false ]
-      by-test true = sym (ne_eqb p k (λ z. omega arith)) ∙ rest
-      by-test false = refl
+      by_test : (t : Bool) → false ≡ elim t [ true ↦ s | false ↦ false ]
+      by_test true = sym (ne_eqb p k (λ z. omega arith)) ∙ rest
+      by_test false = refl
 
-  one-match : eqb (a + 256 * p) (one_more b k) ≡ elim (eqb a b) [ true ↦ s | false ↦ false ]
-  one-match = by-test (eqb b 0) (ltb b 256) (ltb k 0x100000000000000) refl refl refl
+  one_match : eqb (a + 256 * p) (one_more b k) ≡ elim (eqb a b) [ true ↦ s | false ↦ false ]
+  one_match = by_test (eqb b 0) (ltb b 256) (ltb k 0x100000000000000) refl refl refl
     where
-      by-test : (z l m : Bool) → eqb b 0 ≡ z → ltb b 256 ≡ l → ltb k 0x100000000000000 ≡ m
+      by_test : (z l m : Bool) → eqb b 0 ≡ z → ltb b 256 ≡ l → ltb k 0x100000000000000 ≡ m
           → eqb (a + 256 * p) (pick z no_key (pick l (pick m (b + 256 * k) no_key) no_key)) ≡ elim (eqb a b) [ true ↦ s | false ↦ false ]
-      by-test true l m qz ql qm = ne_eqb (a + 256 * p) no_key (λ (e : a + 256 * p ≡ no_key). omega arith) ∙ other_text (λ e. omega (arith, eqb-true b 0 qz))
-      by-test false false m qz ql qm = ne_eqb (a + 256 * p) no_key (λ (e : a + 256 * p ≡ no_key). omega arith) ∙ other_text (λ e. omega (arith, ltb-false b 256 ql))
-      by-test false true false qz ql qm = ne_eqb (a + 256 * p) no_key (λ (e : a + 256 * p ≡ no_key). omega arith) ∙ none-text (ltb-false k 0x100000000000000 qm)
-      by-test false true true qz ql qm = digits (eqb a b) refl (ltb-true b 256 ql)
+      by_test true l m qz ql qm = ne_eqb (a + 256 * p) no_key (λ (e : a + 256 * p ≡ no_key). omega arith) ∙ other_text (λ e. omega (arith, eqb-true b 0 qz))
+      by_test false false m qz ql qm = ne_eqb (a + 256 * p) no_key (λ (e : a + 256 * p ≡ no_key). omega arith) ∙ other_text (λ e. omega (arith, ltb-false b 256 ql))
+      by_test false true false qz ql qm = ne_eqb (a + 256 * p) no_key (λ (e : a + 256 * p ≡ no_key). omega arith) ∙ none_text (ltb-false k 0x100000000000000 qm)
+      by_test false true true qz ql qm = digits (eqb a b) refl (ltb-true b 256 ql)
         where
           digits : (t : Bool) → eqb a b ≡ t → b < 256 → eqb (a + 256 * p) (b + 256 * k) ≡ elim t [ true ↦ s | false ↦ false ]
           digits true q h = same_digits a b p k (eqb-true a b q) ∙ rest
@@ -77,7 +77,7 @@ key_match (a ∷ xs) [] h l =
     ne_eqb (a + 256 * key_of xs) 0 (λ e. omega (arith, f.0))
 key_match (a ∷ xs) (b ∷ bs) h l =
     let f = proper_first a xs h in
-    one-match a b (key_of xs) (key_from bs) (same_text xs bs) f.0 f.1 l (key_match xs bs f.2 (omega arith))
+    one_match a b (key_of xs) (key_from bs) (same_text xs bs) f.0 f.1 l (key_match xs bs f.2 (omega arith))
 
 -- by the key or by the text, where all names fit a key
 pub value_same : (xs : List Name) (t : List ℕ) → T (every fits xs) → value_by xs (key_from t) ≡ value_in xs t
@@ -116,11 +116,11 @@ every_take test zero xs h = tt
 every_take test (suc n) [] h = tt
 every_take test (suc n) (x ∷ xs) h =
     let b = both (test x) (every test xs) h in
-    by-test (test x) b.0 (every_take test n xs b.1)
+    by_test (test x) b.0 (every_take test n xs b.1)
   where
-    by-test : (q : Bool) → T q → T (every test (take n xs)) → T (elim q [ true ↦ every test (take n xs) | false ↦ false ])
-    by-test true q r = r
-    by-test false q r = absurd q
+    by_test : (q : Bool) → T q → T (every test (take n xs)) → T (elim q [ true ↦ every test (take n xs) | false ↦ false ])
+    by_test true q r = r
+    by_test false q r = absurd q
 
 every_drop : (test : Name → Bool) (n : ℕ) (xs : List Name) → T (every test xs) → T (every test (drop n xs))
 every_drop test zero xs h = h
@@ -138,41 +138,41 @@ module _ (p i e : ℕ) (h : i < p % 64) (l : p / 64 + i < entries) where
   abbrev name : Name
   name = get_or table (p / 64 + i) no_name
 
-  pub span-cons : drop i (spanned p) ≡ name ∷ drop (suc i) (spanned p)
-  span-cons =
+  pub span_cons : drop i (spanned p) ≡ name ∷ drop (suc i) (spanned p)
+  span_cons =
       let s : i < length (spanned p) = omega (arith, span_long p) in
       drop-cons (spanned p) i no_name s
       ∙ ap (λ (x : Name). x ∷ drop (suc i) (spanned p)) (get_or-take (p % 64) (drop (p / 64) table) i no_name h ∙ get_or-drop (p / 64) table i no_name)
 
-  name-fits : T (fits name)
-  name-fits = every_at fits table (p / 64 + i) table_fits l
+  name_fits : T (fits name)
+  name_fits = every_at fits table (p / 64 + i) table_fits l
 
   module _ (is-entry : e ≡ entry_of name) where
     pub entry_key : e % 0x100000000000000 ≡ key_of name.text
-    entry_key = omega (arith, is-entry, fits_small name name-fits)
+    entry_key = omega (arith, is-entry, fits_small name name_fits)
 
     pub entry_value : e / 0x100000000000000 ≡ name.value
-    entry_value = omega (arith, is-entry, fits_small name name-fits)
+    entry_value = omega (arith, is-entry, fits_small name name_fits)
 
 pub span_none : (p i : ℕ) → (i < p % 64 → entries ≤ p / 64 + i) → drop i (spanned p) ≡ []
-span_none p i h = by-test (ltb i (p % 64)) refl
+span_none p i h = by_test (ltb i (p % 64)) refl
   where
-    by-test : (b : Bool) → ltb i (p % 64) ≡ b → drop i (spanned p) ≡ []
-    by-test true q = let l : length (spanned p) ≤ i = omega (arith, span_long p, h (ltb-true i (p % 64) q)) in drop_of_length-le (spanned p) l
-    by-test false q = let l : length (spanned p) ≤ i = omega (arith, span_long p, ltb-false i (p % 64) q) in drop_of_length-le (spanned p) l
+    by_test : (b : Bool) → ltb i (p % 64) ≡ b → drop i (spanned p) ≡ []
+    by_test true q = let l : length (spanned p) ≤ i = omega (arith, span_long p, h (ltb-true i (p % 64) q)) in drop_of_length-le (spanned p) l
+    by_test false q = let l : length (spanned p) ≤ i = omega (arith, span_long p, ltb-false i (p % 64) q) in drop_of_length-le (spanned p) l
 
 -- a search that stands at a name
 module _ (x : Name) (xs ys : List Name) (e : ys ≡ x ∷ xs) where
-  value-by : (k : ℕ) (b : Bool) → eqb (key_of x.text) k ≡ b → value_by ys k ≡ elim b as (λ (z : Bool). Option ℕ) [ true ↦ some x.value | false ↦ value_by xs k ]
-  value-by k b q =
+  value_by_lem : (k : ℕ) (b : Bool) → eqb (key_of x.text) k ≡ b → value_by ys k ≡ elim b as (λ (z : Bool). Option ℕ) [ true ↦ some x.value | false ↦ value_by xs k ]
+  value_by_lem k b q =
       ap (λ (zs : List Name). value_by zs k) e
       ∙ ap (λ (b : Bool). elim b as (λ (z : Bool). Option ℕ) [ true ↦ some x.value | false ↦ value_by xs k ]) q
 
   pub found_here : (k : ℕ) → key_of x.text ≡ k → some x.value ≡ value_by ys k
-  found_here k q = sym (value-by k true (eq-eqb (key_of x.text) k q))
+  found_here k q = sym (value_by_lem k true (eq-eqb (key_of x.text) k q))
 
-  pub found-later : (k : ℕ) → (key_of x.text ≡ k → ⊥) → value_by xs k ≡ value_by ys k
-  found-later k q = sym (value-by k false (ne_eqb (key_of x.text) k q))
+  pub found_later : (k : ℕ) → (key_of x.text ≡ k → ⊥) → value_by xs k ≡ value_by ys k
+  found_later k q = sym (value_by_lem k false (ne_eqb (key_of x.text) k q))
 
   text_in_lem : (v : ℕ) (b : Bool) → eqb x.value v ≡ b → text_in ys v ≡ elim b as (λ (z : Bool). List ℕ) [ true ↦ x.text | false ↦ text_in xs v ]
   text_in_lem v b q =
@@ -182,43 +182,43 @@ module _ (x : Name) (xs ys : List Name) (e : ys ≡ x ∷ xs) where
   pub key_here : (v : ℕ) → x.value ≡ v → key_of x.text ≡ key_in ys v
   key_here v q = ap key_of (sym (text_in_lem v true (eq-eqb x.value v q)))
 
-  pub key-later : (v : ℕ) → (x.value ≡ v → ⊥) → key_in xs v ≡ key_in ys v
-  key-later v q = ap key_of (sym (text_in_lem v false (ne_eqb x.value v q)))
+  pub key_later : (v : ℕ) → (x.value ≡ v → ⊥) → key_in xs v ≡ key_in ys v
+  key_later v q = ap key_of (sym (text_in_lem v false (ne_eqb x.value v q)))
 
 -- a turn of both searches
 module _ (p i e : ℕ) (h : i < p % 64) (l : p / 64 + i < entries) (q : e ≡ entry_at (p / 64 + i)) where
   module _ (key : ℕ) (inv : value_by (drop i (spanned p)) key ≡ value_by (spanned p) key) where
-    pub find-here : e % 0x100000000000000 ≡ key → some (e / 0x100000000000000) ≡ value_by (spanned p) key
-    find-here k =
+    pub find_here : e % 0x100000000000000 ≡ key → some (e / 0x100000000000000) ≡ value_by (spanned p) key
+    find_here k =
         ap some (entry_value p i e h l q)
-        ∙ found_here (name p i e h l) (drop (suc i) (spanned p)) (drop i (spanned p)) (span-cons p i e h l) key (sym (entry_key p i e h l q) ∙ k)
+        ∙ found_here (name p i e h l) (drop (suc i) (spanned p)) (drop i (spanned p)) (span_cons p i e h l) key (sym (entry_key p i e h l q) ∙ k)
         ∙ inv
 
-    pub find-next : (e % 0x100000000000000 ≡ key → ⊥) → value_by (drop (i + 1) (spanned p)) key ≡ value_by (spanned p) key
-    find-next k =
+    pub find_next : (e % 0x100000000000000 ≡ key → ⊥) → value_by (drop (i + 1) (spanned p)) key ≡ value_by (spanned p) key
+    find_next k =
         ap (λ (j : ℕ). value_by (drop j (spanned p)) key) (add-one i)
-        ∙ found-later (name p i e h l) (drop (suc i) (spanned p)) (drop i (spanned p)) (span-cons p i e h l) key (λ z. k (entry_key p i e h l q ∙ z))
+        ∙ found_later (name p i e h l) (drop (suc i) (spanned p)) (drop i (spanned p)) (span_cons p i e h l) key (λ z. k (entry_key p i e h l q ∙ z))
         ∙ inv
 
   module _ (v : ℕ) (inv : key_in (drop i (spanned p)) v ≡ key_in (spanned p) v) where
-    pub key-found : e / 0x100000000000000 ≡ v → e % 0x100000000000000 ≡ key_in (spanned p) v
-    key-found k =
+    pub key_found : e / 0x100000000000000 ≡ v → e % 0x100000000000000 ≡ key_in (spanned p) v
+    key_found k =
         entry_key p i e h l q
-        ∙ key_here (name p i e h l) (drop (suc i) (spanned p)) (drop i (spanned p)) (span-cons p i e h l) v (sym (entry_value p i e h l q) ∙ k)
+        ∙ key_here (name p i e h l) (drop (suc i) (spanned p)) (drop i (spanned p)) (span_cons p i e h l) v (sym (entry_value p i e h l q) ∙ k)
         ∙ inv
 
-    pub key-next : (e / 0x100000000000000 ≡ v → ⊥) → key_in (drop (i + 1) (spanned p)) v ≡ key_in (spanned p) v
-    key-next k =
+    pub key_next : (e / 0x100000000000000 ≡ v → ⊥) → key_in (drop (i + 1) (spanned p)) v ≡ key_in (spanned p) v
+    key_next k =
         ap (λ (j : ℕ). key_in (drop j (spanned p)) v) (add-one i)
-        ∙ key-later (name p i e h l) (drop (suc i) (spanned p)) (drop i (spanned p)) (span-cons p i e h l) v (λ z. k (entry_value p i e h l q ∙ z))
+        ∙ key_later (name p i e h l) (drop (suc i) (spanned p)) (drop i (spanned p)) (span_cons p i e h l) v (λ z. k (entry_value p i e h l q ∙ z))
         ∙ inv
 
 module _ (p i : ℕ) (h : i < p % 64 → entries ≤ p / 64 + i) where
-  pub find-end : (key : ℕ) → value_by (drop i (spanned p)) key ≡ value_by (spanned p) key → none ≡ value_by (spanned p) key
-  find-end key inv = sym (ap (λ (xs : List Name). value_by xs key) (span_none p i h)) ∙ inv
+  pub find_end : (key : ℕ) → value_by (drop i (spanned p)) key ≡ value_by (spanned p) key → none ≡ value_by (spanned p) key
+  find_end key inv = sym (ap (λ (xs : List Name). value_by xs key) (span_none p i h)) ∙ inv
 
-  pub key-end : (v : ℕ) → key_in (drop i (spanned p)) v ≡ key_in (spanned p) v → 0 ≡ key_in (spanned p) v
-  key-end v inv = sym (ap (λ (xs : List Name). key_in xs v) (span_none p i h)) ∙ inv
+  pub key_end : (v : ℕ) → key_in (drop i (spanned p)) v ≡ key_in (spanned p) v → 0 ≡ key_in (spanned p) v
+  key_end v inv = sym (ap (λ (xs : List Name). key_in xs v) (span_none p i h)) ∙ inv
 
 -- an entry of a stretch of the table
 pub stretch : (base n k r : ℕ) → Along eqb n (λ j. entry_at (base + j)) (k % 32) r → k % 32 < n → base + k % 32 ≡ k → r ≡ entry_at k
@@ -238,70 +238,70 @@ same_names_lem : (xs ys : List Name) → same_names xs ys ≡ true → xs ≡ ys
 same_names_lem [] [] e = refl
 same_names_lem [] (y ∷ ys) e = absurd (never e)
 same_names_lem (x ∷ xs) [] e = absurd (never e)
-same_names_lem (x ∷ xs) (y ∷ ys) e = by-test (eqb x.value y.value) (same_text x.text y.text) refl refl e (same_names_lem xs ys)
+same_names_lem (x ∷ xs) (y ∷ ys) e = by_test (eqb x.value y.value) (same_text x.text y.text) refl refl e (same_names_lem xs ys)
   where
     same_name : (x y : Name) → x.value ≡ y.value → x.text ≡ y.text → x ≡ y
     same_name x y ev et = ap (λ (v : ℕ). record { value = v; text = x.text }) ev ∙ ap (λ (t : List ℕ). record { value = y.value; text = t }) et
 
-    by-test : (a b : Bool) → eqb x.value y.value ≡ a → same_text x.text y.text ≡ b
+    by_test : (a b : Bool) → eqb x.value y.value ≡ a → same_text x.text y.text ≡ b
         → elim a [ true ↦ elim b [ true ↦ same_names xs ys | false ↦ false ] | false ↦ false ] ≡ true
         → (same_names xs ys ≡ true → xs ≡ ys) → x ∷ xs ≡ y ∷ ys
-    by-test true true p q e rest =
+    by_test true true p q e rest =
         let h = same_name x y (eqb-true x.value y.value p) (same_text_lem x.text y.text q) in
         let r = rest e in
         cc
-    by-test true false p q e rest = absurd (never e)
-    by-test false b p q e rest = absurd (never e)
+    by_test true false p q e rest = absurd (never e)
+    by_test false b p q e rest = absurd (never e)
 
 same_place_lem : (p q : Place) → same_place p q ≡ true → p ≡ q
-same_place_lem p q e = by-test (eqb p.refusal q.refusal) refl e
+same_place_lem p q e = by_test (eqb p.refusal q.refusal) refl e
   where
-    both-same : (p q : Place) → p.refusal ≡ q.refusal → p.names ≡ q.names → p ≡ q
-    both-same p q er en = ap (λ (k : ℕ). place k p.names) er ∙ ap (λ (xs : List Name). place q.refusal xs) en
+    both_same : (p q : Place) → p.refusal ≡ q.refusal → p.names ≡ q.names → p ≡ q
+    both_same p q er en = ap (λ (k : ℕ). place k p.names) er ∙ ap (λ (xs : List Name). place q.refusal xs) en
 
-    by-test : (b : Bool) → eqb p.refusal q.refusal ≡ b → elim b [ true ↦ same_names p.names q.names | false ↦ false ] ≡ true → p ≡ q
-    by-test true r e = both-same p q (eqb-true p.refusal q.refusal r) (same_names_lem p.names q.names e)
-    by-test false r e = absurd (never e)
+    by_test : (b : Bool) → eqb p.refusal q.refusal ≡ b → elim b [ true ↦ same_names p.names q.names | false ↦ false ] ≡ true → p ≡ q
+    by_test true r e = both_same p q (eqb-true p.refusal q.refusal r) (same_names_lem p.names q.names e)
+    by_test false r e = absurd (never e)
 
 pub along_place : (n : ℕ) (f : ℕ → Place) (i : ℕ) (p : Place) → Along same_place n f i p → i < n → p ≡ f i
-along_place = along-by same_place same_place_lem
+along_place = along_by same_place same_place_lem
 
 -- the item at a place, by its key
 module _ (past p key : ℕ) (next : ℕ → List Item → Placed ℕ) where
   by_key : (t : List ℕ) → value_by (spanned p) (key_from t) ≡ value_in (spanned p) t
   by_key t = value_same (spanned p) t (span_fits p)
 
-  expect-value : (xs rest : List Item) (v : ℕ) → key ≡ first_key xs → some v ≡ value_by (spanned p) key → rest ≡ after xs → next v rest ≡ expect past (placed p) xs next
-  expect-value [] rest v ek ev er = absurd (some-ne-none v (ev ∙ ap (value_by (spanned p)) ek ∙ value_never (spanned p) (span_fits p)))
-  expect-value (x ∷ xs) rest v ek ev er =
+  expect_value : (xs rest : List Item) (v : ℕ) → key ≡ first_key xs → some v ≡ value_by (spanned p) key → rest ≡ after xs → next v rest ≡ expect past (placed p) xs next
+  expect_value [] rest v ek ev er = absurd (some-ne-none v (ev ∙ ap (value_by (spanned p)) ek ∙ value_never (spanned p) (span_fits p)))
+  expect_value (x ∷ xs) rest v ek ev er =
       ap (next v) er ∙ ap (λ (o : Option ℕ). value_then (placed p).refusal x.column xs o next) (ev ∙ ap (value_by (spanned p)) ek ∙ by_key x.text)
 
-  expect-none : (xs : List Item) → key ≡ first_key xs → none ≡ value_by (spanned p) key → refused_at (placed p).refusal (column_of past xs) ≡ expect past (placed p) xs next
-  expect-none [] ek ev = refl
-  expect-none (x ∷ xs) ek ev =
+  expect_none : (xs : List Item) → key ≡ first_key xs → none ≡ value_by (spanned p) key → refused_at (placed p).refusal (column_of past xs) ≡ expect past (placed p) xs next
+  expect_none [] ek ev = refl
+  expect_none (x ∷ xs) ek ev =
       ap (λ (o : Option ℕ). value_then (placed p).refusal x.column xs o next) (ev ∙ ap (value_by (spanned p)) ek ∙ by_key x.text)
 
 -- a step by the item at a place
 module _ (line : List ℕ) (at p : ℕ) (r : Next) (n : Nexts line at r) where
   pub step_value : (v : ℕ) → some v ≡ value_by (spanned p) r.key → Steps line (Step.Value v r.at) (expect (past_of line) (placed p) (items_at line at))
-  step_value v e = record { bound = n.bound; leads = λ next. expect-value (past_of line) p r.key next (items_at line at) (items_at line r.at) v n.key e n.items }
+  step_value v e = record { bound = n.bound; leads = λ next. expect_value (past_of line) p r.key next (items_at line at) (items_at line r.at) v n.key e n.items }
 
-  pub step-none : (k : ℕ) → none ≡ value_by (spanned p) r.key → k ≡ (placed p).refusal → Steps line (Step.Refused k r.column) (expect (past_of line) (placed p) (items_at line at))
-  step-none k e q = record {
+  pub step_none : (k : ℕ) → none ≡ value_by (spanned p) r.key → k ≡ (placed p).refusal → Steps line (Step.Refused k r.column) (expect (past_of line) (placed p) (items_at line at))
+  step_none k e q = record {
     bound = omega arith;
     leads = λ next.
-        ap (λ (k : ℕ). refused_at k r.column) q ∙ ap (refused_at (placed p).refusal) n.column ∙ expect-none (past_of line) p r.key next (items_at line at) n.key e;
+        ap (λ (k : ℕ). refused_at k r.column) q ∙ ap (refused_at (placed p).refusal) n.column ∙ expect_none (past_of line) p r.key next (items_at line at) n.key e;
   }
 
 -- a step by a field
 module _ (line : List ℕ) (at s p : ℕ) where
-  pub field-left : (v : ℕ) → at ≤ length line → (placed p).refusal ≡ 0 → v ≡ only_of s → Steps line (Step.Value v at) (field (past_of line) s (placed p) (items_at line at))
-  field-left v h z e =
+  pub field_left : (v : ℕ) → at ≤ length line → (placed p).refusal ≡ 0 → v ≡ only_of s → Steps line (Step.Value v at) (field (past_of line) s (placed p) (items_at line at))
+  field_left v h z e =
       let w : written (placed p) ≡ false = ap not (eq-eqb (placed p).refusal 0 z) in
       record { bound = h; leads = λ next. rw w (ap (λ (u : ℕ). next u (items_at line at)) e) }
 
-  pub field-written : (r : Step) → ((placed p).refusal ≡ 0 → ⊥) → Steps line r (expect (past_of line) (placed p) (items_at line at)) → Steps line r (field (past_of line) s (placed p) (items_at line at))
-  field-written r z t =
+  pub field_written : (r : Step) → ((placed p).refusal ≡ 0 → ⊥) → Steps line r (expect (past_of line) (placed p) (items_at line at)) → Steps line r (field (past_of line) s (placed p) (items_at line at))
+  field_written r z t =
       let w : written (placed p) ≡ true = ap not (ne_eqb (placed p).refusal 0 z) in
       record { bound = t.bound; leads = λ next. t.leads next ∙ rw w }
 

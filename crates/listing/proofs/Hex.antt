@@ -15,7 +15,7 @@ use Rattle.choice.specs.Pick.{pick}
 use Rattle.choice.specs.Tells.{accepted, refused, accepted_whole, refused_at}
 use Rattle.choice.specs.Text.{digit, hex}
 use Rattle.choice.proofs.Spans.{span, below, never, both}
-use Rattle.choice.proofs.Tells.{whole-one, whole-refused}
+use Rattle.choice.proofs.Tells.{whole_one, whole_refused}
 use Rattle.listing.specs.Items.{Item, items_of, normal, joined}
 use Rattle.listing.specs.Lines.{value_then, ended, past_of}
 use Rattle.listing.specs.Data.{data_line, no_digit, digit_of, with_digit, data_in, data_from, data_of}
@@ -40,34 +40,34 @@ sound_test : T (span 0 16 (λ d. ltb 32 (digit d)))
 sound_test = tt
 
 byte_back : (b : ℕ) → digit_of b < 16 → digit (digit_of b) ≡ b
-byte_back b h = by-test (ltb b 48) (ltb b 58) (ltb b 65) (ltb b 71) refl refl refl refl h
+byte_back b h = by_test (ltb b 48) (ltb b 58) (ltb b 65) (ltb b 71) refl refl refl refl h
   where
-    by-test : (p q r s : Bool) → ltb b 48 ≡ p → ltb b 58 ≡ q → ltb b 65 ≡ r → ltb b 71 ≡ s
+    by_test : (p q r s : Bool) → ltb b 48 ≡ p → ltb b 58 ≡ q → ltb b 65 ≡ r → ltb b 71 ≡ s
         → pick p no_digit (pick q (b - 48) (pick r no_digit (pick s (b - 55) no_digit))) < 16
         → digit (pick p no_digit (pick q (b - 48) (pick r no_digit (pick s (b - 55) no_digit)))) ≡ b
-    by-test true q r s ep eq er es h = absurd (omega arith)
-    by-test false true r s ep eq er es h =
+    by_test true q r s ep eq er es h = absurd (omega arith)
+    by_test false true r s ep eq er es h =
         let l = ltb-false b 48 ep in
         let u = ltb-true b 58 eq in
         rw (lt-ltb (b - 48) 10 (omega arith)) (omega arith)
-    by-test false false true s ep eq er es h = absurd (omega arith)
-    by-test false false false true ep eq er es h =
+    by_test false false true s ep eq er es h = absurd (omega arith)
+    by_test false false false true ep eq er es h =
         let l = ltb-false b 65 er in
         let u = ltb-true b 71 es in
         rw (le-ltb (b - 55) 10 (omega arith)) (omega arith)
-    by-test false false false false ep eq er es h = absurd (omega arith)
+    by_test false false false false ep eq er es h = absurd (omega arith)
 
 -- the number of four digits
 abbrev pub chain : ℕ → ℕ → ℕ → ℕ → Option ℕ
 chain a b c d = with_digit (with_digit (with_digit (with_digit (some 0) a) b) c) d
 
 module _ (a b c d : ℕ) where
-  pub none-a : 16 ≤ a → 0x10000 ≡ Option.get_or (chain a b c d) 0x10000
-  none-a h = rw (le-ltb a 16 h)
+  pub none_a : 16 ≤ a → 0x10000 ≡ Option.get_or (chain a b c d) 0x10000
+  none_a h = rw (le-ltb a 16 h)
 
   module _ (ha : a < 16) where
-    pub none-b : 16 ≤ b → 0x10000 ≡ Option.get_or (chain a b c d) 0x10000
-    none-b h = rw (lt-ltb a 16 ha, le-ltb b 16 h)
+    pub none_b : 16 ≤ b → 0x10000 ≡ Option.get_or (chain a b c d) 0x10000
+    none_b h = rw (lt-ltb a 16 ha, le-ltb b 16 h)
 
     module _ (hb : b < 16) where
       pub none_c : 16 ≤ c → 0x10000 ≡ Option.get_or (chain a b c d) 0x10000
@@ -91,11 +91,11 @@ record WithDigit (o : Option ℕ) (d x : ℕ) : Type 0 where
 
 with_some : (o : Option ℕ) (d x : ℕ) → with_digit o d ≡ some x → WithDigit o d x
 with_some none d x e = absurd (some-ne-none x (sym e))
-with_some (some y) d x e = by-test (ltb d no_digit) refl e
+with_some (some y) d x e = by_test (ltb d no_digit) refl e
   where
-    by-test : (b : Bool) → ltb d no_digit ≡ b → pick b (some (16 * y + d)) none ≡ some x → WithDigit (some y) d x
-    by-test true q e = record { before = y; was = refl; small = ltb-true d 16 q; is = sym (some-injective (16 * y + d) x e) }
-    by-test false q e = absurd (some-ne-none x (sym e))
+    by_test : (b : Bool) → ltb d no_digit ≡ b → pick b (some (16 * y + d)) none ≡ some x → WithDigit (some y) d x
+    by_test true q e = record { before = y; was = refl; small = ltb-true d 16 q; is = sym (some-injective (16 * y + d) x e) }
+    by_test false q e = absurd (some-ne-none x (sym e))
 
 pub record Four (a b c d x : ℕ) : Type 0 where
   pub in_a : a < 16
@@ -170,8 +170,8 @@ module _ (line : List ℕ) (s e column : ℕ) (from : s ≤ e) (bound : e ≤ le
       no_data (past_of line) column (take (e - s) (drop s line)) (items_of line) ec et (not_four (take (e - s) (drop s line)) (λ q. h (sym l ∙ q)))
 
   module _ (size : e - s ≡ 4) (x : ℕ) (ed : x ≡ Option.get_or (data_in (take 4 (drop s line))) 0x10000) where
-    is-text : first_text (items_of line) ≡ take 4 (drop s line)
-    is-text = et ∙ ap (λ (n : ℕ). take n (drop s line)) size
+    is_text : first_text (items_of line) ≡ take 4 (drop s line)
+    is_text = et ∙ ap (λ (n : ℕ). take n (drop s line)) size
 
     small : (o : Option ℕ) → x ≡ Option.get_or o 0x10000 → x < 0x10000 → o ≡ some x
     small none q h = absurd (omega arith)
@@ -181,13 +181,13 @@ module _ (line : List ℕ) (s e column : ℕ) (from : s ≤ e) (bound : e ≤ le
     large none q h l = refl
     large (some y) q h l = absurd (omega (arith, l y refl))
 
-    pub not-digits : 0x10000 ≤ x → refused_at 21 column ≡ data_of line
+    pub not_digits : 0x10000 ≤ x → refused_at 21 column ≡ data_of line
     unfolding data_of
-    not-digits h = no_data (past_of line) column _ (items_of line) ec is-text (large _ ed h (data_small (take 4 (drop s line))))
+    not_digits h = no_data (past_of line) column _ (items_of line) ec is_text (large _ ed h (data_small (take 4 (drop s line))))
 
-    pub are-digits : x < 0x10000 → (rest : List Item) → rest ≡ after (items_of line) → ended rest (accepted_whole x) ≡ data_of line
+    pub are_digits : x < 0x10000 → (rest : List Item) → rest ≡ after (items_of line) → ended rest (accepted_whole x) ≡ data_of line
     unfolding data_of
-    are-digits h rest er = some_data (past_of line) _ x (items_of line) rest is-text (small _ ed h) er
+    are_digits h rest er = some_data (past_of line) _ x (items_of line) rest is_text (small _ ed h) er
 
 -- the four bytes at an index, digit by digit
 module _ (line : List ℕ) (s : ℕ) (h : s + 4 ≤ length line) where
@@ -211,11 +211,11 @@ module _ (line : List ℕ) (s : ℕ) (h : s + 4 ≤ length line) where
 
   module _ (a : ℕ) (ea : a ≡ x₀) where
     pub at_a : 16 ≤ a → Is 0x10000
-    at_a l = so 0x10000 (none-a x₀ x₁ x₂ x₃ (omega (arith, ea)))
+    at_a l = so 0x10000 (none_a x₀ x₁ x₂ x₃ (omega (arith, ea)))
 
     module _ (la : a < 16) (b : ℕ) (eb : b ≡ x₁) where
       pub at_b : 16 ≤ b → Is 0x10000
-      at_b l = so 0x10000 (none-b x₀ x₁ x₂ x₃ (omega (arith, ea)) (omega (arith, eb)))
+      at_b l = so 0x10000 (none_b x₀ x₁ x₂ x₃ (omega (arith, ea)) (omega (arith, eb)))
 
       module _ (lb : b < 16) (c : ℕ) (ec : c ≡ x₂) where
         pub at_c : 16 ≤ c → Is 0x10000
@@ -252,55 +252,55 @@ module _ (d : ℕ) where
   spelt_is = refl
 
   -- its key, and the text of that key
-  pub spelt-key : digit d₀ + 256 * (digit d₁ + 256 * (digit d₂ + 256 * digit d₃)) ≡ key_of (data_line d)
-  spelt-key = key-four (digit d₀) (digit d₁) (digit d₂) (digit d₃) ∙ ap key_of (sym spelt_is)
+  pub spelt_key : digit d₀ + 256 * (digit d₁ + 256 * (digit d₂ + 256 * digit d₃)) ≡ key_of (data_line d)
+  spelt_key = key-four (digit d₀) (digit d₁) (digit d₂) (digit d₃) ∙ ap key_of (sym spelt_is)
     where
       key-four : (a b c d : ℕ) → a + 256 * (b + 256 * (c + 256 * d)) ≡ key_of (a ∷ b ∷ c ∷ d ∷ [])
       key-four a b c d = omega arith
 
-  digit-proper : (x : ℕ) → x < 16 → (0 < digit x) × (digit x < 256)
-  digit-proper x l =
+  digit_proper : (x : ℕ) → x < 16 → (0 < digit x) × (digit x < 256)
+  digit_proper x l =
       let b = both (ltb 0 (digit x)) (ltb (digit x) 256) (below (λ d. elim (ltb 0 (digit d)) [ true ↦ ltb (digit d) 256 | false ↦ false ]) 16 x proper_test l) in
       (ltb→lt 0 (digit x) b.0, ltb→lt (digit x) 256 b.1)
 
-  spelt-proper : T (proper spelt)
-  spelt-proper =
-      let t₃ : T (proper (digit d₃ ∷ [])) = one (digit d₃) [] (digit-proper d₃ (omega arith)) tt in
-      let t₂ : T (proper (digit d₂ ∷ digit d₃ ∷ [])) = one (digit d₂) (digit d₃ ∷ []) (digit-proper d₂ (omega arith)) t₃ in
-      let t₁ : T (proper (digit d₁ ∷ digit d₂ ∷ digit d₃ ∷ [])) = one (digit d₁) (digit d₂ ∷ digit d₃ ∷ []) (digit-proper d₁ (omega arith)) t₂ in
-      one (digit d₀) (digit d₁ ∷ digit d₂ ∷ digit d₃ ∷ []) (digit-proper d₀ (omega arith)) t₁
+  spelt_proper : T (proper spelt)
+  spelt_proper =
+      let t₃ : T (proper (digit d₃ ∷ [])) = one (digit d₃) [] (digit_proper d₃ (omega arith)) tt in
+      let t₂ : T (proper (digit d₂ ∷ digit d₃ ∷ [])) = one (digit d₂) (digit d₃ ∷ []) (digit_proper d₂ (omega arith)) t₃ in
+      let t₁ : T (proper (digit d₁ ∷ digit d₂ ∷ digit d₃ ∷ [])) = one (digit d₁) (digit d₂ ∷ digit d₃ ∷ []) (digit_proper d₁ (omega arith)) t₂ in
+      one (digit d₀) (digit d₁ ∷ digit d₂ ∷ digit d₃ ∷ []) (digit_proper d₀ (omega arith)) t₁
     where
       one : (b : ℕ) (bs : List ℕ) → (0 < b) × (b < 256) → T (proper bs) → T (proper (b ∷ bs))
-      one b bs h t = by-test (ltb 0 b) (ltb b 256) (lt-ltb 0 b h.0) (lt-ltb b 256 h.1)
+      one b bs h t = by_test (ltb 0 b) (ltb b 256) (lt-ltb 0 b h.0) (lt-ltb b 256 h.1)
         where
-          by-test : (p q : Bool) → p ≡ true → q ≡ true → T (elim p [ true ↦ elim q [ true ↦ proper bs | false ↦ false ] | false ↦ false ])
-          by-test true true ep eq = t
-          by-test true false ep eq = absurd (never eq)
-          by-test false q ep eq = absurd (never ep)
+          by_test : (p q : Bool) → p ≡ true → q ≡ true → T (elim p [ true ↦ elim q [ true ↦ proper bs | false ↦ false ] | false ↦ false ])
+          by_test true true ep eq = t
+          by_test true false ep eq = absurd (never eq)
+          by_test false q ep eq = absurd (never ep)
 
-  pub key-data : text_of_key (key_of (data_line d)) ≡ data_line d
-  key-data =
+  pub key_data : text_of_key (key_of (data_line d)) ≡ data_line d
+  key_data =
       ap (λ (t : List ℕ). text_of_key (key_of t)) spelt_is
       ∙ text_of_lem (key_of spelt)
-      ∙ key_back 8 spelt spelt-proper (omega arith)
+      ∙ key_back 8 spelt spelt_proper (omega arith)
       ∙ sym spelt_is
 
-  pub data-long : length (data_line d) ≡ 4
-  data-long = ap length spelt_is
+  pub data_long : length (data_line d) ≡ 4
+  data_long = ap length spelt_is
 
   -- the ways out of the call
   module _ (before : List ℕ) where
-    pub data-short : length before < 4 → outcome (refused 3) before ≡ data_into d before
+    pub data_short : length before < 4 → outcome (refused 3) before ≡ data_into d before
     unfolding data_into
-    data-short l = fill_short (data_line d) before (omega (arith, data-long))
+    data_short l = fill_short (data_line d) before (omega (arith, data_long))
 
-    pub data-filled : (after : List ℕ) → 4 ≤ length before → after ≡ sets before 0 (data_line d) → outcome (accepted 4) after ≡ data_into d before
+    pub data_filled : (after : List ℕ) → 4 ≤ length before → after ≡ sets before 0 (data_line d) → outcome (accepted 4) after ≡ data_into d before
     unfolding data_into
-    data-filled after l e = fill_room (data_line d) before 4 after (sym data-long) l e
+    data_filled after l e = fill_room (data_line d) before 4 after (sym data_long) l e
 
 module _ (d : ℕ) (h : d < 0x10000) where
-  spelt-data : data_in (spelt d) ≡ some d
-  spelt-data =
+  spelt_data : data_in (spelt d) ≡ some d
+  spelt_data =
       let n : 16 * (16 * (16 * (d₀ d) + (d₁ d)) + (d₂ d)) + (d₃ d) ≡ d = omega arith in
       rw (digit_back (d₀ d) (omega arith), digit_back (d₁ d) (omega arith), digit_back (d₂ d) (omega arith), digit_back (d₃ d) (omega arith))
       (all_digits (d₀ d) (d₁ d) (d₂ d) (d₃ d) (omega arith) (omega arith) (omega arith) (omega arith) ∙ ap some n)
@@ -308,8 +308,8 @@ module _ (d : ℕ) (h : d < 0x10000) where
   no_blank : (x : ℕ) → x < 16 → eqb (digit x) 32 ≡ false
   no_blank x l = ne_eqb (digit x) 32 (λ e. omega (arith, ltb→lt 32 (digit x) (below (λ d. ltb 32 (digit d)) 16 x sound_test l)))
 
-  spelt-sound : T (sound (spelt d))
-  spelt-sound = four-clean (eqb (digit (d₀ d)) 32) (eqb (digit (d₁ d)) 32) (eqb (digit (d₂ d)) 32) (eqb (digit (d₃ d)) 32)
+  spelt_sound : T (sound (spelt d))
+  spelt_sound = four-clean (eqb (digit (d₀ d)) 32) (eqb (digit (d₁ d)) 32) (eqb (digit (d₂ d)) 32) (eqb (digit (d₃ d)) 32)
       (no_blank (d₀ d) (omega arith)) (no_blank (d₁ d) (omega arith)) (no_blank (d₂ d) (omega arith)) (no_blank (d₃ d) (omega arith))
     where
       four-clean : (p q r s : Bool) → p ≡ false → q ≡ false → r ≡ false → s ≡ false
@@ -328,11 +328,11 @@ pub data_print_read : (d : ℕ) → d < 0x10000 → data_of (data_line d) ≡ ac
 unfolding data_of
 data_print_read d h =
     ap data_of (spelt_is d)
-    ∙ from_texts (past_of (spelt d)) d (spelt d) (items_of (spelt d)) (joined_items (spelt d ∷ []) (one-sound (sound (spelt d)) (spelt-sound d h))) (spelt-data d h)
+    ∙ from_texts (past_of (spelt d)) d (spelt d) (items_of (spelt d)) (joined_items (spelt d ∷ []) (one_sound (sound (spelt d)) (spelt_sound d h))) (spelt_data d h)
   where
-    one-sound : (b : Bool) → T b → T (elim b [ true ↦ true | false ↦ false ])
-    one-sound true t = tt
-    one-sound false t = t
+    one_sound : (b : Bool) → T b → T (elim b [ true ↦ true | false ↦ false ])
+    one_sound true t = tt
+    one_sound false t = t
 
 -- the text of data that was read
 hex_back : (t : List ℕ) (d : ℕ) → data_in t ≡ some d → data_line d ≡ t
@@ -347,29 +347,29 @@ hex_back (a ∷ b ∷ c ∷ f ∷ []) d e =
     let e₁ : d / 16 / 16 % 16 ≡ digit_of b = omega (arith, w.in_a, w.in_b, w.in_c, w.in_d, w.number) in
     let e₂ : d / 16 % 16 ≡ digit_of c = omega (arith, w.in_b, w.in_c, w.in_d, w.number) in
     let e₃ : d % 16 ≡ digit_of f = omega (arith, w.in_c, w.in_d, w.number) in
-    same-four (digit (d / 16 / 16 / 16 % 16)) (digit (d / 16 / 16 % 16)) (digit (d / 16 % 16)) (digit (d % 16)) a b c f
+    same_four (digit (d / 16 / 16 / 16 % 16)) (digit (d / 16 / 16 % 16)) (digit (d / 16 % 16)) (digit (d % 16)) a b c f
     (ap digit e₀ ∙ byte_back a w.in_a) (ap digit e₁ ∙ byte_back b w.in_b) (ap digit e₂ ∙ byte_back c w.in_c) (ap digit e₃ ∙ byte_back f w.in_d)
   where
-    same-four : (x y z w a b c d : ℕ) → x ≡ a → y ≡ b → z ≡ c → w ≡ d → x ∷ y ∷ z ∷ w ∷ [] ≡ a ∷ b ∷ c ∷ d ∷ []
-    same-four x y z w a b c d p q r s = cc
+    same_four : (x y z w a b c d : ℕ) → x ≡ a → y ≡ b → z ≡ c → w ≡ d → x ∷ y ∷ z ∷ w ∷ [] ≡ a ∷ b ∷ c ∷ d ∷ []
+    same_four x y z w a b c d p q r s = cc
 hex_back (a ∷ b ∷ c ∷ f ∷ g ∷ t) d e = absurd (some-ne-none d (sym e))
 
 -- a line that gives data prints as its normal form
 pub data_read_print : (line : List ℕ) (d : ℕ) → data_of line ≡ accepted_whole d → data_line d ≡ normal line
 unfolding data_of
-data_read_print line d e = by-items (items_of line) refl e
+data_read_print line d e = by_items (items_of line) refl e
   where
-    by-rest : (x : Item) (xs : List Item) (v : ℕ) → items_of line ≡ x ∷ xs → data_in x.text ≡ some v → ended xs (accepted_whole v) ≡ accepted_whole d → data_line d ≡ normal line
-    by-rest x [] v i q e =
-        hex_back x.text d (q ∙ ap some (whole-one v d e))
+    by_rest : (x : Item) (xs : List Item) (v : ℕ) → items_of line ≡ x ∷ xs → data_in x.text ≡ some v → ended xs (accepted_whole v) ≡ accepted_whole d → data_line d ≡ normal line
+    by_rest x [] v i q e =
+        hex_back x.text d (q ∙ ap some (whole_one v d e))
         ∙ sym (normal_items line ∙ ap (λ (xs : List Item). joined (texts xs)) i ∙ append-nil x.text)
-    by-rest x (y ∷ xs) v i q e = absurd (whole-refused d 22 y.column (sym e))
+    by_rest x (y ∷ xs) v i q e = absurd (whole_refused d 22 y.column (sym e))
 
     by_value : (x : Item) (xs : List Item) (o : Option ℕ) → items_of line ≡ x ∷ xs → data_in x.text ≡ o
         → value_then 21 x.column xs o (λ d xs. ended xs (accepted_whole d)) ≡ accepted_whole d → data_line d ≡ normal line
-    by_value x xs none i q e = absurd (whole-refused d 21 x.column (sym e))
-    by_value x xs (some v) i q e = by-rest x xs v i q e
+    by_value x xs none i q e = absurd (whole_refused d 21 x.column (sym e))
+    by_value x xs (some v) i q e = by_rest x xs v i q e
 
-    by-items : (xs : List Item) → items_of line ≡ xs → data_from (past_of line) xs ≡ accepted_whole d → data_line d ≡ normal line
-    by-items [] i e = absurd (whole-refused d 21 (past_of line) (sym e))
-    by-items (x ∷ xs) i e = by_value x xs (data_in x.text) i refl e
+    by_items : (xs : List Item) → items_of line ≡ xs → data_from (past_of line) xs ≡ accepted_whole d → data_line d ≡ normal line
+    by_items [] i e = absurd (whole_refused d 21 (past_of line) (sym e))
+    by_items (x ∷ xs) i e = by_value x xs (data_in x.text) i refl e

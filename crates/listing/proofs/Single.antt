@@ -14,7 +14,7 @@ use Rattle.choice.specs.Tells.{accepted, refused}
 use Rattle.choice.proofs.Spans.{span, below}
 use Rattle.choice.specs.Checks.{refusal}
 use Rattle.choice.proofs.Checks.{cleared}
-use Rattle.choice.proofs.Tells.{told-accepted, accepted-one, refused-one, accepted-refused, whole-one, refused-at-one, whole-refused}
+use Rattle.choice.proofs.Tells.{told_accepted, accepted_one, refused_one, accepted_refused, whole_one, refused_at_one, whole_refused}
 use Rattle.isa.specs.declared.Family.{Family}
 use Rattle.isa.specs.declared.Named.{Named}
 use Rattle.isa.specs.Fields.{mark_for, mark_of, quadrant_of, field_a, field_b, field_c}
@@ -23,8 +23,8 @@ use Rattle.isa.specs.Words.{decode_of, encode_of, named_by, word_number, word_ro
 use Rattle.isa.proofs.Families.{own_row, narrow, mark_small}
 use Rattle.isa.proofs.Takes.{taken, small}
 use Rattle.isa.proofs.Values.{within}
-use Rattle.isa.proofs.Found.{row-belongs}
-use Rattle.isa.proofs.Laws.{encode-decode, encode-takes, word_answered}
+use Rattle.isa.proofs.Found.{row_belongs}
+use Rattle.isa.proofs.Laws.{encode_decode, encode_takes, word_answered}
 use Rattle.listing.specs.declared.Printed.{Printed}
 use Rattle.listing.specs.declared.Read.{Read}
 use Rattle.listing.specs.Places.{Place, written, at_family, at_mode, form_of}
@@ -37,10 +37,10 @@ use Rattle.listing.proofs.Tables.{most_values}
 use Rattle.listing.proofs.Laws.{print_read, half}
 
 printed_one : (r s : Printed) → printed_tells r ≡ printed_tells s → r ≡ s
-printed_one (Printed.Filled x) (Printed.Filled y) e = ap Printed.Filled (accepted-one x y e)
-printed_one (Printed.Filled x) (Printed.Refused k) e = absurd (accepted-refused x k e)
-printed_one (Printed.Refused k) (Printed.Filled x) e = absurd (accepted-refused x k (sym e))
-printed_one (Printed.Refused j) (Printed.Refused k) e = ap Printed.Refused (refused-one {A = ℕ} j k e)
+printed_one (Printed.Filled x) (Printed.Filled y) e = ap Printed.Filled (accepted_one x y e)
+printed_one (Printed.Filled x) (Printed.Refused k) e = absurd (accepted_refused x k e)
+printed_one (Printed.Refused k) (Printed.Filled x) e = absurd (accepted_refused x k (sym e))
+printed_one (Printed.Refused j) (Printed.Refused k) e = ap Printed.Refused (refused_one {A = ℕ} j k e)
 
 pub line_of_unique : (w : ℕ) (before : List ℕ) (r s : Printed) (x y : List ℕ) → outcome (printed_tells r) x ≡ print_into w before → outcome (printed_tells s) y ≡ print_into w before → (r ≡ s) × (x ≡ y)
 line_of_unique w before r s x y p q =
@@ -48,10 +48,10 @@ line_of_unique w before r s x y p q =
     (printed_one r s (ap (λ (o : Outcome). o.told) e), ap (λ (o : Outcome). o.bytes) e)
 
 read_one : (r s : Read) → read_tells r ≡ read_tells s → r ≡ s
-read_one (Read.Word x) (Read.Word y) e = ap Read.Word (whole-one x y e)
-read_one (Read.Word x) (Read.Refused k i) e = absurd (whole-refused x k i e)
-read_one (Read.Refused k i) (Read.Word x) e = absurd (whole-refused x k i (sym e))
-read_one (Read.Refused j a) (Read.Refused k b) e = let h = refused-at-one {A = ℕ} j k a b e in cc
+read_one (Read.Word x) (Read.Word y) e = ap Read.Word (whole_one x y e)
+read_one (Read.Word x) (Read.Refused k i) e = absurd (whole_refused x k i e)
+read_one (Read.Refused k i) (Read.Word x) e = absurd (whole_refused x k i (sym e))
+read_one (Read.Refused j a) (Read.Refused k b) e = let h = refused_at_one {A = ℕ} j k a b e in cc
 
 pub data_line_unique : (d : ℕ) (before : List ℕ) (r s : Printed) (x y : List ℕ) → outcome (printed_tells r) x ≡ data_into d before → outcome (printed_tells s) y ≡ data_into d before → (r ≡ s) × (x ≡ y)
 data_line_unique d before r s x y p q =
@@ -66,7 +66,7 @@ data_of_unique line r s p q = read_one r s (p ∙ sym q)
 
 -- two words with one line are one word
 pub one_word : (v w : ℕ) → v < 0x10000 → w < 0x10000 → (line : List ℕ) → line_of v ≡ accepted line → line_of w ≡ accepted line → v ≡ w
-one_word v w hv hw line p q = whole-one v w (sym (print_read v hv line p) ∙ print_read w hw line q)
+one_word v w hv hw line p q = whole_one v w (sym (print_read v hv line p) ∙ print_read w hw line q)
 
 -- the most that f is below n
 abbrev most : ℕ → (ℕ → ℕ) → ℕ
@@ -75,11 +75,11 @@ most (suc n) f = max (f n) (most n f)
 
 at_most : (n v : ℕ) (f : ℕ → ℕ) → v < n → f v ≤ most n f
 at_most zero v f h = absurd (omega arith)
-at_most (suc n) v f h = by-test (eqb v n) refl (at_most n v f)
+at_most (suc n) v f h = by_test (eqb v n) refl (at_most n v f)
   where
-    by-test : (b : Bool) → eqb v n ≡ b → (v < n → f v ≤ most n f) → f v ≤ max (f n) (most n f)
-    by-test true q rest = omega (arith, ap f (eqb-true v n q))
-    by-test false q rest = omega (arith, rest (omega (arith, eqb-false v n q)))
+    by_test : (b : Bool) → eqb v n ≡ b → (v < n → f v ≤ most n f) → f v ≤ max (f n) (most n f)
+    by_test true q rest = omega (arith, ap f (eqb-true v n q))
+    by_test false q rest = omega (arith, rest (omega (arith, eqb-false v n q)))
 
 -- the longest text of a place, and of a field
 abbrev longest : Place → ℕ
@@ -102,12 +102,12 @@ one_longer : (t : List ℕ) (n : ℕ) → length t ≤ n → length (after_blank
 one_longer t n h = simp append-nil (omega arith)
 
 field_short : (p : Place) (v : ℕ) → v < most_values → length (after_blanks (field_texts p v)) ≤ longest_field p
-field_short p v h = by-test (written p)
+field_short p v h = by_test (written p)
   where
-    by-test : (b : Bool) → length (after_blanks (pick b (text_of p v ∷ []) [])) ≤ pick b (1 + longest p) 0
-    by-test true =
+    by_test : (b : Bool) → length (after_blanks (pick b (text_of p v ∷ []) [])) ≤ pick b (1 + longest p) 0
+    by_test true =
         one_longer (text_of p v) (longest p) (at_most most_values v (λ v. length (text_of p v)) h)
-    by-test false = omega arith
+    by_test false = omega arith
 
 sum_short : (f m : List ℕ) (xs ys zs : List (List ℕ)) (k a b c n : ℕ) → length f + (1 + k + (a + (b + c))) ≤ n → length m ≤ k
     → length (after_blanks xs) ≤ a → length (after_blanks ys) ≤ b → length (after_blanks zs) ≤ c → length (joined (f ∷ m ∷ (xs ++ (ys ++ zs)))) ≤ n
@@ -129,7 +129,7 @@ named_short : (n : Named) (w : ℕ) → encode_of n ≡ accepted w → length (j
 named_short n w e =
     let i : ℕ = number_of n.family in
     let o = own_row n.family in
-    let s = small (row_at i) (mark_for n.mode) n.a n.b n.c (narrow i o.0) (encode-takes n w e) in
+    let s = small (row_at i) (mark_for n.mode) n.a n.b n.c (narrow i o.0) (encode_takes n w e) in
     subst (λ (g : Family). length (joined (texts_by i (mark_for n.mode) (form_of g) n.a n.b n.c)) ≤ longest_line) o.1
     (texts_short i (mark_for n.mode) n.a n.b n.c o.0 (mark_small n.mode) (half n.a s.0) (half n.b s.1) s.2)
 
@@ -144,9 +144,9 @@ accepted_small : (w : ℕ) (n : Named) → decode_of w ≡ accepted n → w < 0x
 unfolding decode_of
 accepted_small w n e =
     let i : ℕ = word_number w in
-    let t = told-accepted (refusal (word_checks w)) (named_by w) n e in
+    let t = told_accepted (refusal (word_checks w)) (named_by w) n e in
     let f = cleared 7 (leb no_row i) (rule_checks (word_row w) (mark_of w) (field_a w) (field_b w)) (λ z. omega arith) t.0 in
-    let b = row-belongs (mark_of w) (quadrant_of w) (field_a w) (field_b w) (field_c w) (leb-false no_row i f.0) in
+    let b = row_belongs (mark_of w) (quadrant_of w) (field_a w) (field_b w) (field_c w) (leb-false no_row i f.0) in
     let k = taken (row_at i) (mark_of w) (field_a w) (field_b w) (field_c w) b.fields in
     let m : mark_of w < 2 = within 2 (row_at i).modes (mark_of w) (ltb→lt (row_at i).modes 4 (below two_modes no_row i all_two_modes b.listed)) k.mode in
     omega arith
@@ -157,12 +157,12 @@ unfolding line_of
 line_short w line e = by_answer (word_answered w)
   where
     no : (k : ℕ) → decode_of w ≡ refused k → ⊥
-    no k q = accepted-refused line k (sym e ∙ ap line_by q)
+    no k q = accepted_refused line k (sym e ∙ ap line_by q)
 
     by_answer : Answered (decode_of w) (named_by w) → length line ≤ longest_line
     by_answer (inl q) =
-        subst (λ (l : List ℕ). length l ≤ longest_line) (accepted-one (joined (texts_of (named_by w))) line (sym (ap line_by q) ∙ e))
-        (named_short (named_by w) w (encode-decode w (accepted_small w (named_by w) q) (named_by w) q))
+        subst (λ (l : List ℕ). length l ≤ longest_line) (accepted_one (joined (texts_of (named_by w))) line (sym (ap line_by q) ∙ e))
+        (named_short (named_by w) w (encode_decode w (accepted_small w (named_by w) q) (named_by w) q))
     by_answer (inr (inl q)) = absurd (no 7 q)
     by_answer (inr (inr (inl q))) = absurd (no 8 q)
     by_answer (inr (inr (inr q))) = absurd (no 9 q)

@@ -27,11 +27,11 @@ all_sound [] = true
 all_sound (t ∷ ts) = elim (sound t) [ true ↦ all_sound ts | false ↦ false ]
 
 no_blank : (b : ℕ) (bs : List ℕ) → T (clean (b ∷ bs)) → (is_blank b ≡ false) × T (clean bs)
-no_blank b bs t = by-test (is_blank b) t
+no_blank b bs t = by_test (is_blank b) t
   where
-    by-test : (q : Bool) → T (elim q [ true ↦ false | false ↦ clean bs ]) → (q ≡ false) × T (clean bs)
-    by-test true t = absurd t
-    by-test false t = (refl, t)
+    by_test : (q : Bool) → T (elim q [ true ↦ false | false ↦ clean bs ]) → (q ≡ false) × T (clean bs)
+    by_test true t = absurd t
+    by_test false t = (refl, t)
 
 up_to : (t : List ℕ) (ts : List (List ℕ)) → T (clean t) → up_to_blank (t ++ after_blanks ts) ≡ t
 up_to [] [] h = refl
@@ -75,13 +75,13 @@ all_full (x ∷ xs) = elim (full x.text) [ true ↦ all_full xs | false ↦ fals
 
 pub items_full : (begins : Bool) (k : ℕ) (bs : List ℕ) → T (all_full (items_from begins k bs))
 items_full begins k [] = tt
-items_full begins k (b ∷ bs) = by-test (is_blank b) begins (λ begins. items_full begins (suc k) bs)
+items_full begins k (b ∷ bs) = by_test (is_blank b) begins (λ begins. items_full begins (suc k) bs)
   where
-    by-test : (q begins : Bool) → ((begins : Bool) → T (all_full (items_from begins (suc k) bs))) → T (all_full (pick q (items_from true (suc k) bs)
+    by_test : (q begins : Bool) → ((begins : Bool) → T (all_full (items_from begins (suc k) bs))) → T (all_full (pick q (items_from true (suc k) bs)
         (pick begins (item k (b ∷ up_to_blank bs) ∷ items_from false (suc k) bs) (items_from false (suc k) bs))))
-    by-test true begins rest = rest true
-    by-test false true rest = rest false
-    by-test false false rest = rest false
+    by_test true begins rest = rest true
+    by_test false true rest = rest false
+    by_test false false rest = rest false
 
 one_more_lem : (ts : List (List ℕ)) → one_blank (after_blanks ts) ≡ after_blanks ts
 one_more_lem [] = refl
@@ -113,8 +113,8 @@ squeeze (b ∷ bs) = (outer b bs (is_blank b) refl (squeeze bs).0 (squeeze bs).1
 pub normal_items : (line : List ℕ) → normal line ≡ joined (texts (items_of line))
 unfolding normal
 normal_items [] = refl
-normal_items (b ∷ bs) = by-test (is_blank b) refl
+normal_items (b ∷ bs) = by_test (is_blank b) refl
   where
-    by-test : (q : Bool) → is_blank b ≡ q → trimmed (squeezed (b ∷ bs)) ≡ joined (texts (items_of (b ∷ bs)))
-    by-test true q = rw q (ap trimmed ((squeeze bs).0 2) ∙ trim_first (texts (items_from true 2 bs)))
-    by-test false q = rw (q, q) (ap (λ (z : List ℕ). b ∷ z) ((squeeze bs).1 2))
+    by_test : (q : Bool) → is_blank b ≡ q → trimmed (squeezed (b ∷ bs)) ≡ joined (texts (items_of (b ∷ bs)))
+    by_test true q = rw q (ap trimmed ((squeeze bs).0 2) ∙ trim_first (texts (items_from true 2 bs)))
+    by_test false q = rw (q, q) (ap (λ (z : List ℕ). b ∷ z) ((squeeze bs).1 2))

@@ -1,6 +1,6 @@
 -- What the lists of names have in common, each computed once: the names of one list are distinct, have no blank and fit a key; and a family
 -- writes just the values that its row has.
--- The laws, in this order: `family_good`, `mode_good`, `good-a`, `good-b`, `good-c`, `writes-a`, `writes-b`, `writes-c`.
+-- The laws, in this order: `family_good`, `mode_good`, `good_a`, `good_b`, `good_c`, `writes_a`, `writes_b`, `writes_c`.
 use mathlib.Core.Path.{◌≡◌, refl, sym, ap, ◌∙◌, subst}
 use mathlib.Core.Bool.{Bool, true, false, not}
 use mathlib.Core.List.{List, [], ◌∷◌}
@@ -75,30 +75,30 @@ all_good : T (span 0 no_row form_good)
 all_good = tt
 
 module _ (i : ℕ) (h : i < no_row) where
-  good-from : T (elim (good (form_of (row_at i).family).a) [ true ↦ elim (good (form_of (row_at i).family).b) [ true ↦ good (form_of (row_at i).family).c | false ↦ false ] | false ↦ false ])
-  good-from = below form_good no_row i all_good h
+  good_from : T (elim (good (form_of (row_at i).family).a) [ true ↦ elim (good (form_of (row_at i).family).b) [ true ↦ good (form_of (row_at i).family).c | false ↦ false ] | false ↦ false ])
+  good_from = below form_good no_row i all_good h
 
-  pub good-a : T (good (form_of (row_at i).family).a)
-  good-a = (both (good (form_of (row_at i).family).a) _ good-from).0
+  pub good_a : T (good (form_of (row_at i).family).a)
+  good_a = (both (good (form_of (row_at i).family).a) _ good_from).0
 
-  good-later : T (elim (good (form_of (row_at i).family).b) [ true ↦ good (form_of (row_at i).family).c | false ↦ false ])
-  good-later = (both (good (form_of (row_at i).family).a) _ good-from).1
+  good_later : T (elim (good (form_of (row_at i).family).b) [ true ↦ good (form_of (row_at i).family).c | false ↦ false ])
+  good_later = (both (good (form_of (row_at i).family).a) _ good_from).1
 
-  pub good-b : T (good (form_of (row_at i).family).b)
-  good-b = (both (good (form_of (row_at i).family).b) _ good-later).0
+  pub good_b : T (good (form_of (row_at i).family).b)
+  good_b = (both (good (form_of (row_at i).family).b) _ good_later).0
 
-  pub good-c : T (good (form_of (row_at i).family).c)
-  good-c = (both (good (form_of (row_at i).family).b) _ good-later).1
+  pub good_c : T (good (form_of (row_at i).family).c)
+  good_c = (both (good (form_of (row_at i).family).b) _ good_later).1
 
 pub same_text_lem : (x y : List ℕ) → same_text x y ≡ true → x ≡ y
 same_text_lem [] [] e = refl
 same_text_lem [] (b ∷ y) e = absurd (never e)
 same_text_lem (a ∷ x) [] e = absurd (never e)
-same_text_lem (a ∷ x) (b ∷ y) e = by-test (eqb a b) refl e (same_text_lem x y)
+same_text_lem (a ∷ x) (b ∷ y) e = by_test (eqb a b) refl e (same_text_lem x y)
   where
-    by-test : (t : Bool) → eqb a b ≡ t → elim t [ true ↦ same_text x y | false ↦ false ] ≡ true → (same_text x y ≡ true → x ≡ y) → a ∷ x ≡ b ∷ y
-    by-test true q e rest = let h = eqb-true a b q in let r = rest e in cc
-    by-test false q e rest = absurd (never e)
+    by_test : (t : Bool) → eqb a b ≡ t → elim t [ true ↦ same_text x y | false ↦ false ] ≡ true → (same_text x y ≡ true → x ≡ y) → a ∷ x ≡ b ∷ y
+    by_test true q e rest = let h = eqb-true a b q in let r = rest e in cc
+    by_test false q e rest = absurd (never e)
 
 -- the name that was found by its value or by its text
 pub record Chosen (test : Name → Bool) (v : ℕ) (t : List ℕ) : Type 0 where
@@ -112,23 +112,23 @@ module _ (test : Name → Bool) where
   by_value [] v t f = absurd (never f)
   by_value (x ∷ xs) v t f =
       let b = both (test x) (every test xs) t in
-      by-test (eqb x.value v) refl b.0 f (by_value xs v b.1)
+      by_test (eqb x.value v) refl b.0 f (by_value xs v b.1)
     where
-      by-test : (q : Bool) → eqb x.value v ≡ q → T (test x) → full (elim q [ true ↦ x.text | false ↦ text_in xs v ]) ≡ true
+      by_test : (q : Bool) → eqb x.value v ≡ q → T (test x) → full (elim q [ true ↦ x.text | false ↦ text_in xs v ]) ≡ true
           → (full (text_in xs v) ≡ true → Chosen test v (text_in xs v)) → Chosen test v (elim q [ true ↦ x.text | false ↦ text_in xs v ])
-      by-test true q t f rest = record { name = x; tested = t; value = eqb-true x.value v q; text = refl }
-      by-test false q t f rest = rest f
+      by_test true q t f rest = record { name = x; tested = t; value = eqb-true x.value v q; text = refl }
+      by_test false q t f rest = rest f
 
-  pub by-text : (xs : List Name) (t : List ℕ) (v : ℕ) → T (every test xs) → value_in xs t ≡ some v → Chosen test v t
-  by-text [] t v h e = absurd (some-ne-none v (sym e))
-  by-text (x ∷ xs) t v h e =
+  pub by_text : (xs : List Name) (t : List ℕ) (v : ℕ) → T (every test xs) → value_in xs t ≡ some v → Chosen test v t
+  by_text [] t v h e = absurd (some-ne-none v (sym e))
+  by_text (x ∷ xs) t v h e =
       let b = both (test x) (every test xs) h in
-      by-test (same_text x.text t) refl b.0 e (by-text xs t v b.1)
+      by_test (same_text x.text t) refl b.0 e (by_text xs t v b.1)
     where
-      by-test : (q : Bool) → same_text x.text t ≡ q → T (test x) → elim q [ true ↦ some x.value | false ↦ value_in xs t ] ≡ some v
+      by_test : (q : Bool) → same_text x.text t ≡ q → T (test x) → elim q [ true ↦ some x.value | false ↦ value_in xs t ] ≡ some v
           → (value_in xs t ≡ some v → Chosen test v t) → Chosen test v t
-      by-test true q s e rest = record { name = x; tested = s; value = some-injective x.value v e; text = same_text_lem x.text t q }
-      by-test false q s e rest = rest e
+      by_test true q s e rest = record { name = x; tested = s; value = some-injective x.value v e; text = same_text_lem x.text t q }
+      by_test false q s e rest = rest e
 
 found_is : (o : Option ℕ) (v : ℕ) → T (found o v) → o ≡ some v
 found_is none v t = absurd t
@@ -136,29 +136,29 @@ found_is (some k) v t = ap some (eqb→eq k v t)
 
 -- what is asked of a name, one by one
 module _ (xs : List Name) (x : Name) (t : T (sane xs x)) where
-  sane-fits : T (fits x)
-  sane-fits = (both (fits x) _ t).0
+  sane_fits : T (fits x)
+  sane_fits = (both (fits x) _ t).0
 
-  sane-rest : T (elim (ltb x.value most_values) [ true ↦ distinct xs x | false ↦ false ])
-  sane-rest = (both (fits x) _ t).1
+  sane_rest : T (elim (ltb x.value most_values) [ true ↦ distinct xs x | false ↦ false ])
+  sane_rest = (both (fits x) _ t).1
 
-  sane-small : x.value < most_values
-  sane-small = ltb→lt x.value most_values (both (ltb x.value most_values) (distinct xs x) sane-rest).0
+  sane_small : x.value < most_values
+  sane_small = ltb→lt x.value most_values (both (ltb x.value most_values) (distinct xs x) sane_rest).0
 
-  sane-distinct : T (distinct xs x)
-  sane-distinct = (both (ltb x.value most_values) (distinct xs x) sane-rest).1
+  sane_distinct : T (distinct xs x)
+  sane_distinct = (both (ltb x.value most_values) (distinct xs x) sane_rest).1
 
-  sane-sound : T (sound x.text)
-  sane-sound = (both (sound x.text) _ sane-distinct).0
+  sane_sound : T (sound x.text)
+  sane_sound = (both (sound x.text) _ sane_distinct).0
 
-  sane-pair : T (elim (same_text (text_in xs x.value) x.text) [ true ↦ found (value_in xs x.text) x.value | false ↦ false ])
-  sane-pair = (both (sound x.text) _ sane-distinct).1
+  sane_pair : T (elim (same_text (text_in xs x.value) x.text) [ true ↦ found (value_in xs x.text) x.value | false ↦ false ])
+  sane_pair = (both (sound x.text) _ sane_distinct).1
 
-  sane-text : text_in xs x.value ≡ x.text
-  sane-text = same_text_lem _ _ (holds _ (both (same_text (text_in xs x.value) x.text) _ sane-pair).0)
+  sane_text : text_in xs x.value ≡ x.text
+  sane_text = same_text_lem _ _ (holds _ (both (same_text (text_in xs x.value) x.text) _ sane_pair).0)
 
-  sane-value : value_in xs x.text ≡ some x.value
-  sane-value = found_is (value_in xs x.text) x.value (both (same_text (text_in xs x.value) x.text) _ sane-pair).1
+  sane_value : value_in xs x.text ≡ some x.value
+  sane_value = found_is (value_in xs x.text) x.value (both (same_text (text_in xs x.value) x.text) _ sane_pair).1
 
 pub fits_proper : (x : Name) → T (fits x) → T (proper x.text)
 fits_proper x t = (both (proper x.text) _ t).0
@@ -170,35 +170,35 @@ pub fits_small : (x : Name) → T (fits x) → key_of x.text < 0x100000000000000
 fits_small x t = ltb→lt (key_of x.text) 0x100000000000000 (both (leb (length x.text) 7) _ (both (proper x.text) _ t).1).1
 
 module _ (p : Place) (g : T (good p)) where
-  names-sane : T (every (sane p.names) p.names)
-  names-sane = (both (every (sane p.names) p.names) _ g).0
+  names_sane : T (every (sane p.names) p.names)
+  names_sane = (both (every (sane p.names) p.names) _ g).0
 
   pub all_fit : T (every fits p.names)
-  all_fit = fit-from p.names names-sane
+  all_fit = fit-from p.names names_sane
     where
       fit-from : (ys : List Name) → T (every (sane p.names) ys) → T (every fits ys)
       fit-from [] t = tt
       fit-from (y ∷ ys) t =
           let b = both (sane p.names y) (every (sane p.names) ys) t in
-          by-test (fits y) (sane-fits p.names y b.0) (fit-from ys b.1)
+          by_test (fits y) (sane_fits p.names y b.0) (fit-from ys b.1)
         where
-          by-test : (q : Bool) → T q → T (every fits ys) → T (elim q [ true ↦ every fits ys | false ↦ false ])
-          by-test true q r = r
-          by-test false q r = absurd q
+          by_test : (q : Bool) → T q → T (every fits ys) → T (elim q [ true ↦ every fits ys | false ↦ false ])
+          by_test true q r = r
+          by_test false q r = absurd q
 
   -- a value that was found is written so
-  pub value-text : (t : List ℕ) (v : ℕ) → value_in p.names t ≡ some v → (text_of p v ≡ t) × (v < most_values)
-  value-text t v e =
-      let c = by-text (sane p.names) p.names t v names-sane e in
+  pub value_text : (t : List ℕ) (v : ℕ) → value_in p.names t ≡ some v → (text_of p v ≡ t) × (v < most_values)
+  value_text t v e =
+      let c = by_text (sane p.names) p.names t v names_sane e in
       let n : Name = c.name in (
-        ap (text_in p.names) (sym c.value) ∙ sane-text p.names n c.tested ∙ c.text,
-        subst (λ (v : ℕ). v < most_values) c.value (sane-small p.names n c.tested),
+        ap (text_in p.names) (sym c.value) ∙ sane_text p.names n c.tested ∙ c.text,
+        subst (λ (v : ℕ). v < most_values) c.value (sane_small p.names n c.tested),
       )
 
-  pub value-full : (t : List ℕ) (v : ℕ) → value_in p.names t ≡ some v → full (text_of p v) ≡ true
-  value-full t v e =
-      let c = by-text (sane p.names) p.names t v names-sane e in
-      ap full ((value-text t v e).0 ∙ sym c.text) ∙ sound-full c.name.text (sane-sound p.names c.name c.tested)
+  pub value_full : (t : List ℕ) (v : ℕ) → value_in p.names t ≡ some v → full (text_of p v) ≡ true
+  value_full t v e =
+      let c = by_text (sane p.names) p.names t v names_sane e in
+      ap full ((value_text t v e).0 ∙ sym c.text) ∙ sound-full c.name.text (sane_sound p.names c.name c.tested)
     where
       sound-full : (t : List ℕ) → T (sound t) → full t ≡ true
       sound-full [] h = absurd h
@@ -206,40 +206,40 @@ module _ (p : Place) (g : T (good p)) where
 
   module _ (v : ℕ) (f : full (text_of p v) ≡ true) where
     chosen : Chosen (sane p.names) v (text_of p v)
-    chosen = by_value (sane p.names) p.names v names-sane f
+    chosen = by_value (sane p.names) p.names v names_sane f
 
     -- and a text of a value is found again
-    pub text-value : value_in p.names (text_of p v) ≡ some v
-    text-value =
-        ap (value_in p.names) (sym chosen.text) ∙ sane-value p.names chosen.name chosen.tested ∙ ap some chosen.value
+    pub text_value : value_in p.names (text_of p v) ≡ some v
+    text_value =
+        ap (value_in p.names) (sym chosen.text) ∙ sane_value p.names chosen.name chosen.tested ∙ ap some chosen.value
 
-    pub text-sound : T (sound (text_of p v))
-    text-sound = subst (λ (t : List ℕ). T (sound t)) chosen.text (sane-sound p.names chosen.name chosen.tested)
+    pub text_sound : T (sound (text_of p v))
+    text_sound = subst (λ (t : List ℕ). T (sound t)) chosen.text (sane_sound p.names chosen.name chosen.tested)
 
-    chosen-fits : T (fits chosen.name)
-    chosen-fits = sane-fits p.names chosen.name chosen.tested
+    chosen_fits : T (fits chosen.name)
+    chosen_fits = sane_fits p.names chosen.name chosen.tested
 
-    pub text-length : length (text_of p v) ≤ 7
-    text-length = subst (λ (t : List ℕ). length t ≤ 7) chosen.text (fits_short chosen.name chosen-fits)
+    pub text_length : length (text_of p v) ≤ 7
+    text_length = subst (λ (t : List ℕ). length t ≤ 7) chosen.text (fits_short chosen.name chosen_fits)
 
-    pub key-text : text_of_key (key_in p.names v) ≡ text_of p v
-    key-text =
+    pub key_text : text_of_key (key_in p.names v) ≡ text_of p v
+    key_text =
         text_of_lem (key_of (text_of p v))
-        ∙ key_back key_bytes (text_of p v) (subst (λ (t : List ℕ). T (proper t)) chosen.text (fits_proper chosen.name chosen-fits)) (omega (arith, text-length))
+        ∙ key_back key_bytes (text_of p v) (subst (λ (t : List ℕ). T (proper t)) chosen.text (fits_proper chosen.name chosen_fits)) (omega (arith, text_length))
 
   no_names : (xs : List Name) → empty xs ≡ true → (v : ℕ) → text_in xs v ≡ []
   no_names [] e v = refl
   no_names (x ∷ xs) e v = absurd (never e)
 
   -- a place that is not written has no text
-  pub unwritten-text : written p ≡ false → (v : ℕ) → text_of p v ≡ []
-  unwritten-text q v =
-      no_names p.names (by-test (written p) (empty p.names) q (holds _ (both (every (sane p.names) p.names) _ g).1)) v
+  pub unwritten_text : written p ≡ false → (v : ℕ) → text_of p v ≡ []
+  unwritten_text q v =
+      no_names p.names (by_test (written p) (empty p.names) q (holds _ (both (every (sane p.names) p.names) _ g).1)) v
     where
-      by-test : (b d : Bool) → b ≡ false → same b (not d) ≡ true → d ≡ true
-      by-test b true q s = refl
-      by-test true false q s = absurd (never (sym q))
-      by-test false false q s = absurd (never s)
+      by_test : (b d : Bool) → b ≡ false → same b (not d) ≡ true → d ≡ true
+      by_test b true q s = refl
+      by_test true false q s = absurd (never (sym q))
+      by_test false false q s = absurd (never s)
 
 -- a field is written where its set has more than one value, and its texts are those of the set's values
 abbrev writes : ℕ → Place → ℕ → Bool
@@ -262,27 +262,27 @@ all_write : T (span 0 no_row (λ i. span 0 most_values (family_writes i)))
 all_write = tt
 
 writes_at : (s : ℕ) (p : Place) (v : ℕ) → T (writes s p v) → Writes s p v
-writes_at s p v t = by-test (written p) refl (both (same (not (eqb s (2 ^ only_of s))) (written p)) _ t).1
+writes_at s p v t = by_test (written p) refl (both (same (not (eqb s (2 ^ only_of s))) (written p)) _ t).1
   where
-    by-test : (b : Bool) → written p ≡ b → T (elim b [ true ↦ same (full (text_of p v)) (has s v) | false ↦ same (has s v) (eqb v (only_of s)) ]) → Writes s p v
-    by-test true q t = shown q (same_eq (full (text_of p v)) (has s v) (holds _ t))
-    by-test false q t = left q (same_eq (has s v) (eqb v (only_of s)) (holds _ t))
+    by_test : (b : Bool) → written p ≡ b → T (elim b [ true ↦ same (full (text_of p v)) (has s v) | false ↦ same (has s v) (eqb v (only_of s)) ]) → Writes s p v
+    by_test true q t = shown q (same_eq (full (text_of p v)) (has s v) (holds _ t))
+    by_test false q t = left q (same_eq (has s v) (eqb v (only_of s)) (holds _ t))
 
 module _ (i : ℕ) (h : i < no_row) (v : ℕ) (l : v < most_values) where
   here : T (family_writes i v)
   here = below (family_writes i) most_values v (below (λ i. span 0 most_values (family_writes i)) no_row i all_write h) l
 
-  pub writes-a : Writes (row_at i).a (form_of (row_at i).family).a v
-  writes-a = writes_at _ _ v (both (writes (row_at i).a (form_of (row_at i).family).a v) _ here).0
+  pub writes_a : Writes (row_at i).a (form_of (row_at i).family).a v
+  writes_a = writes_at _ _ v (both (writes (row_at i).a (form_of (row_at i).family).a v) _ here).0
 
   later : T (elim (writes (row_at i).b (form_of (row_at i).family).b v) [ true ↦ writes (row_at i).c (form_of (row_at i).family).c v | false ↦ false ])
   later = (both (writes (row_at i).a (form_of (row_at i).family).a v) _ here).1
 
-  pub writes-b : Writes (row_at i).b (form_of (row_at i).family).b v
-  writes-b = writes_at _ _ v (both (writes (row_at i).b (form_of (row_at i).family).b v) _ later).0
+  pub writes_b : Writes (row_at i).b (form_of (row_at i).family).b v
+  writes_b = writes_at _ _ v (both (writes (row_at i).b (form_of (row_at i).family).b v) _ later).0
 
-  pub writes-c : Writes (row_at i).c (form_of (row_at i).family).c v
-  writes-c = writes_at _ _ v (both (writes (row_at i).b (form_of (row_at i).family).b v) _ later).1
+  pub writes_c : Writes (row_at i).c (form_of (row_at i).family).c v
+  writes_c = writes_at _ _ v (both (writes (row_at i).b (form_of (row_at i).family).b v) _ later).1
 
 -- the families and the modes each have a text, and no other number has one
 abbrev as_many : Place → ℕ → ℕ → Bool

@@ -24,21 +24,21 @@ module _ (line : List ℕ) (i : ℕ) where
     head = drop-cons line i 0 h
 
     -- a blank
-    pub blank-items : (begins : Bool) → is_blank (get_or line i 0) ≡ true → items_from begins (suc i) (drop i line) ≡ items_at line (suc i)
-    blank-items begins e = ap (items_from begins (suc i)) head ∙ rw e
+    pub blank_items : (begins : Bool) → is_blank (get_or line i 0) ≡ true → items_from begins (suc i) (drop i line) ≡ items_at line (suc i)
+    blank_items begins e = ap (items_from begins (suc i)) head ∙ rw e
 
-    pub blank-ends : is_blank (get_or line i 0) ≡ true → up_to_blank (drop i line) ≡ []
-    blank-ends e = ap up_to_blank head ∙ rw e
+    pub blank_ends : is_blank (get_or line i 0) ≡ true → up_to_blank (drop i line) ≡ []
+    blank_ends e = ap up_to_blank head ∙ rw e
 
     -- any other byte
-    pub byte-items : is_blank (get_or line i 0) ≡ false → items_from false (suc i) (drop i line) ≡ items_from false (suc (suc i)) (drop (suc i) line)
-    byte-items e = ap (items_from false (suc i)) head ∙ rw e
+    pub byte_items : is_blank (get_or line i 0) ≡ false → items_from false (suc i) (drop i line) ≡ items_from false (suc (suc i)) (drop (suc i) line)
+    byte_items e = ap (items_from false (suc i)) head ∙ rw e
 
-    pub byte-text : is_blank (get_or line i 0) ≡ false → up_to_blank (drop i line) ≡ get_or line i 0 ∷ up_to_blank (drop (suc i) line)
-    byte-text e = ap up_to_blank head ∙ rw e
+    pub byte_text : is_blank (get_or line i 0) ≡ false → up_to_blank (drop i line) ≡ get_or line i 0 ∷ up_to_blank (drop (suc i) line)
+    byte_text e = ap up_to_blank head ∙ rw e
 
-    pub byte-begins : is_blank (get_or line i 0) ≡ false → items_at line i ≡ item (suc i) (get_or line i 0 ∷ up_to_blank (drop (suc i) line)) ∷ items_from false (suc (suc i)) (drop (suc i) line)
-    byte-begins e = ap (items_from true (suc i)) head ∙ rw e
+    pub byte_begins : is_blank (get_or line i 0) ≡ false → items_at line i ≡ item (suc i) (get_or line i 0 ∷ up_to_blank (drop (suc i) line)) ∷ items_from false (suc (suc i)) (drop (suc i) line)
+    byte_begins e = ap (items_from true (suc i)) head ∙ rw e
 
 -- within an item from `at` on: what was passed, and what is to come
 pub text_turn : (line : List ℕ) (at i : ℕ) → at ≤ i → i < length line → is_blank (get_or line i 0) ≡ false
@@ -50,7 +50,7 @@ text_turn line at i l h e q =
     let s : i - at < length (drop at line) = simp length-drop (omega arith) in
     let g : get_or (drop at line) (i - at) 0 ≡ get_or line i 0 = get_or-drop at line (i - at) 0 ∙ ap (λ (x : ℕ). get_or line x 0) j in
     q
-    ∙ ap (λ (z : List ℕ). take (i - at) (drop at line) ++ z) (byte-text line i h e)
+    ∙ ap (λ (z : List ℕ). take (i - at) (drop at line) ++ z) (byte_text line i h e)
     ∙ sym (append_assoc (take (i - at) (drop at line)) (get_or line i 0 ∷ []) (up_to_blank (drop (suc i) line)))
     ∙ ap (λ (z : ℕ). (take (i - at) (drop at line) ++ (z ∷ [])) ++ up_to_blank (drop (suc i) line)) (sym g)
     ∙ ap (λ (z : List ℕ). z ++ up_to_blank (drop (suc i) line)) (sym (take-suc (drop at line) (i - at) 0 s))
@@ -70,15 +70,15 @@ pub next_found : (line : List ℕ) (at s e key : ℕ) → Starts line at s → s
     → Nexts line at (record { found = true; start = s; column = s + 1; key = key; at = e })
 next_found line at s e key st h en ek =
     let n = st.here h in
-    let xs : items_at line at ≡ item (suc s) (get_or line s 0 ∷ up_to_blank (drop (suc s) line)) ∷ items_from false (suc (suc s)) (drop (suc s) line) = st.items ∙ byte-begins line s h n in
+    let xs : items_at line at ≡ item (suc s) (get_or line s 0 ∷ up_to_blank (drop (suc s) line)) ∷ items_from false (suc (suc s)) (drop (suc s) line) = st.items ∙ byte_begins line s h n in
     record {
       from = en.from;
       bound = en.bound;
       found = sym (ap some_left xs);
       column = add-one s ∙ sym (ap (column_of (suc (length line))) xs);
-      key = ek ∙ ap key_from (sym en.text ∙ byte-text line s h n) ∙ sym (ap first_key xs);
-      text = ap first_text xs ∙ sym (byte-text line s h n) ∙ en.text;
-      items = sym en.items ∙ byte-items line s h n ∙ sym (ap after xs);
+      key = ek ∙ ap key_from (sym en.text ∙ byte_text line s h n) ∙ sym (ap first_key xs);
+      text = ap first_text xs ∙ sym (byte_text line s h n) ∙ en.text;
+      items = sym en.items ∙ byte_items line s h n ∙ sym (ap after xs);
     }
 
 pub next_none : (line : List ℕ) (at s : ℕ) → Starts line at s → length line ≤ s
@@ -110,30 +110,30 @@ within_start line at h =
     record { from = omega arith; bound = h; text = rw z; items = refl }
 
 module _ (line : List ℕ) (at i : ℕ) (w : Within line at i) where
-  pub within-turn : i < length line → is_blank (get_or line i 0) ≡ false → Within line at (i + 1)
-  within-turn h e = rw (add-one i) (record {
+  pub within_turn : i < length line → is_blank (get_or line i 0) ≡ false → Within line at (i + 1)
+  within_turn h e = rw (add-one i) (record {
     from = omega (arith, w.from);
     bound = h;
     text = text_turn line at i w.from h e w.text;
-    items = w.items ∙ byte-items line i h e;
+    items = w.items ∙ byte_items line i h e;
   })
 
-  within-over : up_to_blank (drop i line) ≡ [] → items_from false (suc i) (drop i line) ≡ items_at line i → Ends line at i
-  within-over t s = record {
+  within_over : up_to_blank (drop i line) ≡ [] → items_from false (suc i) (drop i line) ≡ items_at line i → Ends line at i
+  within_over t s = record {
     from = w.from;
     bound = w.bound;
     text = w.text ∙ ap (λ (z : List ℕ). take (i - at) (drop at line) ++ z) t ∙ append-nil (take (i - at) (drop at line));
     items = w.items ∙ s;
   }
 
-  pub within-blank : i < length line → is_blank (get_or line i 0) ≡ true → Ends line at i
-  within-blank h e = within-over (blank-ends line i h e) (blank-items line i h false e ∙ sym (blank-items line i h true e))
+  pub within_blank : i < length line → is_blank (get_or line i 0) ≡ true → Ends line at i
+  within_blank h e = within_over (blank_ends line i h e) (blank_items line i h false e ∙ sym (blank_items line i h true e))
 
   pub within_end : length line ≤ i → Ends line at i
-  within_end h = within-over (no_more line i h) (no_items line i false h ∙ sym (no_items line i true h))
+  within_end h = within_over (no_more line i h) (no_items line i false h ∙ sym (no_items line i true h))
 
 pub blank_turn : (line : List ℕ) (at i : ℕ) → i < length line → is_blank (get_or line i 0) ≡ true → items_at line at ≡ items_at line i → items_at line at ≡ items_at line (i + 1)
-blank_turn line at i h e q = rw (add-one i) (q ∙ blank-items line i h true e)
+blank_turn line at i h e q = rw (add-one i) (q ∙ blank_items line i h true e)
 
 pub key_turn_down : (line : List ℕ) (i end key : ℕ) → 0 < i → i ≤ end → end ≤ length line → key ≡ key_from (take (end - i) (drop i line))
     → one_more (get_or line (i - 1) 0) key ≡ key_from (take (end - (i - 1)) (drop (i - 1) line))

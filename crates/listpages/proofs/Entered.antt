@@ -13,7 +13,7 @@ use borrow.Author.Tests.{ltb-true, le-ltb}
 use Rattle.choice.specs.Pick.{pick}
 use Rattle.choice.specs.Tells.{Tells, accepted, refused}
 use Rattle.choice.specs.Text.{newline, hex}
-use Rattle.choice.proofs.Tells.{accepted-one, refused-one, accepted-refused}
+use Rattle.choice.proofs.Tells.{accepted_one, refused_one, accepted_refused}
 use Rattle.isa.specs.declared.Named.{Named}
 use Rattle.isa.specs.Words.{decode_of, takes_immediate}
 use Rattle.lines.specs.Lines.{word_refused_line}
@@ -21,7 +21,7 @@ use Rattle.listing.specs.Lines.{line_by, line_of, texts_of, word_of}
 use Rattle.listing.specs.Items.{joined}
 use Rattle.listing.specs.Data.{data_line, data_of}
 use Rattle.listing.specs.Answers.{Outcome, outcome, fill, print_into, data_into}
-use Rattle.listing.proofs.Hex.{data-long}
+use Rattle.listing.proofs.Hex.{data_long}
 use Rattle.listing.proofs.Single.{line_short}
 use Rattle.listpages.specs.Entries.{instruction_line, entry_line, waits_after, refusal_at, line_tells}
 
@@ -39,30 +39,30 @@ line_end t before after n en ea h =
 
 -- what a line that was filled says of it
 module _ (t before after : List ℕ) where
-  fill-accepted : (n : ℕ) → outcome (accepted n) after ≡ fill t before → (n ≡ length t) × (after ≡ t ++ drop (length t) before)
-  fill-accepted n e = by-test (ltb (length before) (length t)) e
+  fill_accepted : (n : ℕ) → outcome (accepted n) after ≡ fill t before → (n ≡ length t) × (after ≡ t ++ drop (length t) before)
+  fill_accepted n e = by_test (ltb (length before) (length t)) e
     where
-      by-test : (b : Bool) → outcome (accepted n) after ≡ pick b (outcome (refused 3) before) (outcome (accepted (length t)) (t ++ drop (length t) before))
+      by_test : (b : Bool) → outcome (accepted n) after ≡ pick b (outcome (refused 3) before) (outcome (accepted (length t)) (t ++ drop (length t) before))
           → (n ≡ length t) × (after ≡ t ++ drop (length t) before)
-      by-test true e = absurd (accepted-refused n 3 (ap (λ (o : Outcome). o.told) e))
-      by-test false e = (accepted-one n (length t) (ap (λ (o : Outcome). o.told) e), ap (λ (o : Outcome). o.bytes) e)
+      by_test true e = absurd (accepted_refused n 3 (ap (λ (o : Outcome). o.told) e))
+      by_test false e = (accepted_one n (length t) (ap (λ (o : Outcome). o.told) e), ap (λ (o : Outcome). o.bytes) e)
 
-  fill-refused : (k : ℕ) → length t ≤ length before → outcome (refused k) after ≡ fill t before → ⊥
-  fill-refused k h e = by-test (ltb (length before) (length t)) refl e
+  fill_refused : (k : ℕ) → length t ≤ length before → outcome (refused k) after ≡ fill t before → ⊥
+  fill_refused k h e = by_test (ltb (length before) (length t)) refl e
     where
-      by-test : (b : Bool) → ltb (length before) (length t) ≡ b → outcome (refused k) after ≡ pick b (outcome (refused 3) before) (outcome (accepted (length t)) (t ++ drop (length t) before)) → ⊥
-      by-test true q e = omega (arith, ltb-true (length before) (length t) q)
-      by-test false q e = accepted-refused (length t) k (sym (ap (λ (o : Outcome). o.told) e))
+      by_test : (b : Bool) → ltb (length before) (length t) ≡ b → outcome (refused k) after ≡ pick b (outcome (refused 3) before) (outcome (accepted (length t)) (t ++ drop (length t) before)) → ⊥
+      by_test true q e = omega (arith, ltb-true (length before) (length t) q)
+      by_test false q e = accepted_refused (length t) k (sym (ap (λ (o : Outcome). o.told) e))
 
 -- the data of a word
 pub hex_filled : (w : ℕ) (before after : List ℕ) (t : Tells ℕ) → length before ≡ 5 → outcome t after ≡ data_into w before → set after 4 newline ≡ hex 4 w ++ newline ∷ []
 unfolding data_into
 hex_filled w before after t l e =
-    let f : fill (data_line w) before ≡ outcome (accepted (length (data_line w))) (data_line w ++ drop (length (data_line w)) before) = rw (le-ltb (length before) (length (data_line w)) (omega (arith, data-long w))) in
+    let f : fill (data_line w) before ≡ outcome (accepted (length (data_line w))) (data_line w ++ drop (length (data_line w)) before) = rw (le-ltb (length before) (length (data_line w)) (omega (arith, data_long w))) in
     let a : after ≡ data_line w ++ drop (length (data_line w)) before = ap (λ (o : Outcome). o.bytes) (e ∙ f) in
-    let n : length after ≡ 5 = ap length a ∙ length-append (data_line w) (drop (length (data_line w)) before) ∙ simp length-drop (omega (arith, data-long w)) in
+    let n : length after ≡ 5 = ap length a ∙ length-append (data_line w) (drop (length (data_line w)) before) ∙ simp length-drop (omega (arith, data_long w)) in
     sym (take_all 5 (set after 4 newline) (simp length-set (omega arith)))
-    ∙ line_end (data_line w) before after 4 (sym (data-long w)) a (omega arith)
+    ∙ line_end (data_line w) before after 4 (sym (data_long w)) a (omega arith)
 
 -- the line of a word tells what the word does
 pub line_told : (w : ℕ) (t : List ℕ) → (line_of w).value ≡ some t → line_of w ≡ accepted t
@@ -91,57 +91,57 @@ module _ (w : ℕ) (before after : List ℕ) (size : length before ≡ 24) where
     where
       by_value : (o : Option (List ℕ)) → (line_of w).value ≡ o
           → outcome (accepted n) after ≡ elim o as (λ (z : Option (List ℕ)). Outcome) [ some line ↦ fill line before | none ↦ outcome (refused (line_of w).number) before ] → Filled n
-      by_value none q e = absurd (accepted-refused n (line_of w).number (ap (λ (o : Outcome). o.told) e))
+      by_value none q e = absurd (accepted_refused n (line_of w).number (ap (λ (o : Outcome). o.told) e))
       by_value (some t) q e =
-          let f = fill-accepted t before after n e in
+          let f = fill_accepted t before after n e in
           record { line = t; told = line_told w t q; count = f.0; bytes = f.1 }
 
-  pub filled-short : (n : ℕ) → outcome (accepted n) after ≡ print_into w before → n ≤ 23
-  filled-short n e =
+  pub filled_short : (n : ℕ) → outcome (accepted n) after ≡ print_into w before → n ≤ 23
+  filled_short n e =
       let f = filled n e in
       omega (arith, f.count, line_short w f.line f.told)
 
-  pub filled-long : (n : ℕ) → outcome (accepted n) after ≡ print_into w before → length after ≡ 24
-  filled-long n e =
+  pub filled_long : (n : ℕ) → outcome (accepted n) after ≡ print_into w before → length after ≡ 24
+  filled_long n e =
       let f = filled n e in
-      ap length f.bytes ∙ length-append f.line (drop (length f.line) before) ∙ simp length-drop (omega (arith, size, f.count, filled-short n e))
+      ap length f.bytes ∙ length-append f.line (drop (length f.line) before) ∙ simp length-drop (omega (arith, size, f.count, filled_short n e))
 
-  pub filled-line : (n : ℕ) → outcome (accepted n) after ≡ print_into w before → take (n + 1) (set after n newline) ≡ instruction_line (line_of w)
-  filled-line n e =
+  pub filled_line : (n : ℕ) → outcome (accepted n) after ≡ print_into w before → take (n + 1) (set after n newline) ≡ instruction_line (line_of w)
+  filled_line n e =
       let f = filled n e in
-      line_end f.line before after n f.count f.bytes (omega (arith, size, filled-short n e))
+      line_end f.line before after n f.count f.bytes (omega (arith, size, filled_short n e))
       ∙ sym (ap instruction_line f.told)
 
-  pub refused-line : (k : ℕ) → outcome (refused k) after ≡ print_into w before → word_refused_line k ≡ instruction_line (line_of w)
+  pub refused_line_lem : (k : ℕ) → outcome (refused k) after ≡ print_into w before → word_refused_line k ≡ instruction_line (line_of w)
   unfolding print_into
-  refused-line k e = by_value (line_of w).value refl e
+  refused_line_lem k e = by_value (line_of w).value refl e
     where
       by_value : (o : Option (List ℕ)) → (line_of w).value ≡ o
           → outcome (refused k) after ≡ elim o as (λ (z : Option (List ℕ)). Outcome) [ some line ↦ fill line before | none ↦ outcome (refused (line_of w).number) before ]
           → word_refused_line k ≡ elim o as (λ (z : Option (List ℕ)). List ℕ) [ some line ↦ line ++ newline ∷ [] | none ↦ word_refused_line (line_of w).number ]
-      by_value none q e = ap word_refused_line (refused-one {A = ℕ} k (line_of w).number (ap (λ (o : Outcome). o.told) e))
-      by_value (some t) q e = absurd (fill-refused t before after k (omega (arith, size, line_short w t (line_told w t q))) e)
+      by_value none q e = ap word_refused_line (refused_one {A = ℕ} k (line_of w).number (ap (λ (o : Outcome). o.told) e))
+      by_value (some t) q e = absurd (fill_refused t before after k (omega (arith, size, line_short w t (line_told w t q))) e)
 
 -- by whether an instruction waits
 module _ (waits : Bool) where
-  pub entry-data : (w : ℕ) → waits ≡ true → hex 4 w ++ newline ∷ [] ≡ entry_line waits w
+  pub entry_data : (w : ℕ) → waits ≡ true → hex 4 w ++ newline ∷ [] ≡ entry_line waits w
   unfolding entry_line
-  entry-data w e = rw e
+  entry_data w e = rw e
 
-  pub entry-word : (w : ℕ) → waits ≡ false → instruction_line (line_of w) ≡ entry_line waits w
+  pub entry_word : (w : ℕ) → waits ≡ false → instruction_line (line_of w) ≡ entry_line waits w
   unfolding entry_line
-  entry-word w e = rw e
+  entry_word w e = rw e
 
-  pub tells-data : (line : List ℕ) → waits ≡ true → data_of line ≡ line_tells waits line
+  pub tells_data : (line : List ℕ) → waits ≡ true → data_of line ≡ line_tells waits line
   unfolding line_tells
-  tells-data line e = rw e
+  tells_data line e = rw e
 
-  pub tells-word : (line : List ℕ) → waits ≡ false → word_of line ≡ line_tells waits line
+  pub tells_word : (line : List ℕ) → waits ≡ false → word_of line ≡ line_tells waits line
   unfolding line_tells
-  tells-word line e = rw e
+  tells_word line e = rw e
 
-  pub after-word : (w : ℕ) → waits ≡ false → takes_immediate w ≡ waits_after waits w
-  after-word w e = rw e
+  pub after_word_lem : (w : ℕ) → waits ≡ false → takes_immediate w ≡ waits_after waits w
+  after_word_lem w e = rw e
 
-  pub refusal-word : (w k : ℕ) → waits ≡ false → k ≡ (decode_of w).number → k ≡ refusal_at waits w
-  refusal-word w k e q = q ∙ rw e
+  pub refusal_word : (w k : ℕ) → waits ≡ false → k ≡ (decode_of w).number → k ≡ refusal_at waits w
+  refusal_word w k e q = q ∙ rw e

@@ -54,40 +54,40 @@ module _ (bytes : List ℕ) (from i : ℕ) (w : Within bytes from i) where
       ∙ take-suc (drop from bytes) (i - from) 0 s
       ∙ ap (λ (b : ℕ). passed ++ b ∷ []) (get_or-drop from bytes (i - from) 0 ∙ ap (λ (x : ℕ). get_or bytes x 0) j)
 
-  lines-here : (q : Bool) → i < length bytes → eqb (get_or bytes i 0) newline ≡ q
+  lines_here : (q : Bool) → i < length bytes → eqb (get_or bytes i 0) newline ≡ q
       → lines_of (drop i bytes) ≡ pick q ([] ∷ lines_of (drop (suc i) bytes)) (in_front (get_or bytes i 0) (lines_of (drop (suc i) bytes)))
-  lines-here q h e =
+  lines_here q h e =
       ap lines_of (drop-cons bytes i 0 h)
       ∙ ap (λ (q : Bool). pick q ([] ∷ lines_of (drop (suc i) bytes)) (in_front (get_or bytes i 0) (lines_of (drop (suc i) bytes)))) e
 
-  pub within-turn : i < length bytes → eqb (get_or bytes i 0) newline ≡ false → Within bytes from (i + 1)
-  within-turn h e = rw (add-one i) (record {
+  pub within_turn : i < length bytes → eqb (get_or bytes i 0) newline ≡ false → Within bytes from (i + 1)
+  within_turn h e = rw (add-one i) (record {
     later = omega (arith, w.later);
     bound = h;
     lines =
         w.lines
-        ∙ ap (all_in_front passed) (lines-here false h e)
+        ∙ ap (all_in_front passed) (lines_here false h e)
         ∙ sym (in_front_more passed (get_or bytes i 0) (lines_of (drop (suc i) bytes)))
         ∙ ap (λ (t : List ℕ). all_in_front t (lines_of (drop (suc i) bytes))) (sym (one_more_lem h));
   })
 
-  front-empty : (t : List ℕ) (lines : List (List ℕ)) → all_in_front t ([] ∷ lines) ≡ t ∷ lines
-  front-empty [] lines = refl
-  front-empty (b ∷ t) lines = in_front_first b t [] lines ∙ ap (λ (l : List ℕ). (b ∷ l) ∷ lines) (append-nil t)
+  front_empty : (t : List ℕ) (lines : List (List ℕ)) → all_in_front t ([] ∷ lines) ≡ t ∷ lines
+  front_empty [] lines = refl
+  front_empty (b ∷ t) lines = in_front_first b t [] lines ∙ ap (λ (l : List ℕ). (b ∷ l) ∷ lines) (append-nil t)
 
-  pub ends-feed : i < length bytes → eqb (get_or bytes i 0) newline ≡ true → LineEnds bytes from i
-  ends-feed h e = record {
+  pub ends_feed : i < length bytes → eqb (get_or bytes i 0) newline ≡ true → LineEnds bytes from i
+  ends_feed h e = record {
     later = w.later;
     bound = w.bound;
-    lines = w.lines ∙ ap (all_in_front passed) (lines-here true h e) ∙ front-empty passed (lines_of (drop (suc i) bytes));
+    lines = w.lines ∙ ap (all_in_front passed) (lines_here true h e) ∙ front_empty passed (lines_of (drop (suc i) bytes));
   }
 
-  front-nothing : (t : List ℕ) → 0 < length t → all_in_front t [] ≡ t ∷ []
-  front-nothing [] h = absurd (omega arith)
-  front-nothing (b ∷ t) h = in_front_none b t
+  front_nothing : (t : List ℕ) → 0 < length t → all_in_front t [] ≡ t ∷ []
+  front_nothing [] h = absurd (omega arith)
+  front_nothing (b ∷ t) h = in_front_none b t
 
-  pub ends-bytes : length bytes ≤ i → from < length bytes → LineEnds bytes from i
-  ends-bytes h f =
+  pub ends_bytes : length bytes ≤ i → from < length bytes → LineEnds bytes from i
+  ends_bytes h f =
       let here : drop i bytes ≡ [] = drop_of_length-le bytes h in
       let l : length bytes ≤ suc i = omega arith in
       let next : drop (suc i) bytes ≡ [] = drop_of_length-le bytes l in
@@ -98,22 +98,22 @@ module _ (bytes : List ℕ) (from i : ℕ) (w : Within bytes from i) where
         lines =
             w.lines
             ∙ ap (λ (d : List ℕ). all_in_front passed (lines_of d)) here
-            ∙ front-nothing passed s
+            ∙ front_nothing passed s
             ∙ ap (λ (d : List ℕ). passed ∷ lines_of d) (sym next);
       }
 
 -- a text has no more lines than bytes
 pub lines_le : (bytes : List ℕ) → length (lines_of bytes) ≤ length bytes
 lines_le [] = omega arith
-lines_le (b ∷ bytes) = by-test (eqb b newline) (lines_le bytes)
+lines_le (b ∷ bytes) = by_test (eqb b newline) (lines_le bytes)
   where
-    front-le : (lines : List (List ℕ)) → length (in_front b lines) ≤ suc (length lines)
-    front-le [] = omega arith
-    front-le (l ∷ ls) = omega arith
+    front_le : (lines : List (List ℕ)) → length (in_front b lines) ≤ suc (length lines)
+    front_le [] = omega arith
+    front_le (l ∷ ls) = omega arith
 
-    by-test : (q : Bool) → length (lines_of bytes) ≤ length bytes → length (pick q ([] ∷ lines_of bytes) (in_front b (lines_of bytes))) ≤ suc (length bytes)
-    by-test true h = omega arith
-    by-test false h = omega (arith, front-le (lines_of bytes))
+    by_test : (q : Bool) → length (lines_of bytes) ≤ length bytes → length (pick q ([] ∷ lines_of bytes) (in_front b (lines_of bytes))) ≤ suc (length bytes)
+    by_test true h = omega arith
+    by_test false h = omega (arith, front_le (lines_of bytes))
 
 -- a text that ends in a line feed, and more
 lines_front : (b : ℕ) (ls ms : List (List ℕ)) → 0 < length ls → in_front b ls ++ ms ≡ in_front b (ls ++ ms)
@@ -121,24 +121,24 @@ lines_front b [] ms h = absurd (omega arith)
 lines_front b (l ∷ ls) ms h = refl
 
 some_lines : (a : List ℕ) (b : ℕ) → 0 < length (lines_of (a ++ b ∷ []))
-some_lines [] b = by-test (eqb b newline)
+some_lines [] b = by_test (eqb b newline)
   where
-    by-test : (q : Bool) → 0 < length (pick q ([] ∷ []) (in_front b []))
-    by-test true = omega arith
-    by-test false = omega arith
-some_lines (c ∷ a) b = by-test (eqb c newline) (lines_of (a ++ b ∷ []))
+    by_test : (q : Bool) → 0 < length (pick q ([] ∷ []) (in_front b []))
+    by_test true = omega arith
+    by_test false = omega arith
+some_lines (c ∷ a) b = by_test (eqb c newline) (lines_of (a ++ b ∷ []))
   where
-    by-test : (q : Bool) (ls : List (List ℕ)) → 0 < length (pick q ([] ∷ ls) (in_front c ls))
-    by-test true ls = omega arith
-    by-test false [] = omega arith
-    by-test false (l ∷ ls) = omega arith
+    by_test : (q : Bool) (ls : List (List ℕ)) → 0 < length (pick q ([] ∷ ls) (in_front c ls))
+    by_test true ls = omega arith
+    by_test false [] = omega arith
+    by_test false (l ∷ ls) = omega arith
 
 pub lines_append : (a b : List ℕ) → lines_of ((a ++ newline ∷ []) ++ b) ≡ lines_of (a ++ newline ∷ []) ++ lines_of b
 lines_append [] b = refl
-lines_append (c ∷ a) b = by-test (eqb c newline) (lines_append a b)
+lines_append (c ∷ a) b = by_test (eqb c newline) (lines_append a b)
   where
-    by-test : (q : Bool) → lines_of ((a ++ newline ∷ []) ++ b) ≡ lines_of (a ++ newline ∷ []) ++ lines_of b
+    by_test : (q : Bool) → lines_of ((a ++ newline ∷ []) ++ b) ≡ lines_of (a ++ newline ∷ []) ++ lines_of b
         → pick q ([] ∷ lines_of ((a ++ newline ∷ []) ++ b)) (in_front c (lines_of ((a ++ newline ∷ []) ++ b)))
         ≡ pick q ([] ∷ lines_of (a ++ newline ∷ [])) (in_front c (lines_of (a ++ newline ∷ []))) ++ lines_of b
-    by-test true e = ap (λ (ls : List (List ℕ)). [] ∷ ls) e
-    by-test false e = ap (in_front c) e ∙ sym (lines_front c (lines_of (a ++ newline ∷ [])) (lines_of b) (some_lines a newline))
+    by_test true e = ap (λ (ls : List (List ℕ)). [] ∷ ls) e
+    by_test false e = ap (in_front c) e ∙ sym (lines_front c (lines_of (a ++ newline ∷ [])) (lines_of b) (some_lines a newline))

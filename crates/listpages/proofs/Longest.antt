@@ -14,18 +14,18 @@ use Rattle.trace.specs.Layout.{words_per_record}
 use Rattle.lines.specs.Lines.{word_refused_line, refused_line}
 use Rattle.lines.proofs.Longest.{word_refused_line_le, refused_line_le}
 use Rattle.listing.specs.Lines.{line_of}
-use Rattle.listing.proofs.Hex.{data-long}
+use Rattle.listing.proofs.Hex.{data_long}
 use Rattle.listing.proofs.Single.{line_short}
 use Rattle.listpages.specs.declared.Reading.{Reading}
 use Rattle.listpages.specs.Entries.{instruction_line, entry_line, waits_after, line_tells, answer_line}
 use Rattle.listpages.specs.Listing.{line_words_from, line_words, list_text}
 use Rattle.listpages.specs.Answering.{lines_of, after_line, answer_to, answers_of}
-use Rattle.listpages.proofs.Walks.{text-le}
+use Rattle.listpages.proofs.Walks.{text_le}
 use Rattle.listpages.proofs.Lined.{lines_le}
 use Rattle.listpages.proofs.Entered.{line_told}
 
 hex_line_le : (w : ℕ) → length (hex 4 w ++ newline ∷ []) ≤ 29
-hex_line_le w = rw (length-append (hex 4 w) (newline ∷ [])) (omega (arith, data-long w))
+hex_line_le w = rw (length-append (hex 4 w) (newline ∷ [])) (omega (arith, data_long w))
 
 instruction_line_le : (w : ℕ) → length (instruction_line (line_of w)) ≤ 29
 instruction_line_le w = by_value (line_of w).value refl
@@ -48,7 +48,7 @@ words_long words i (suc n) = ap suc (words_long words (i + 1) n)
 pub list_fits : (words : List ℕ) → length words ≤ words_per_record * most_cycles → length (list_text words) ≤ 118784
 unfolding list_text
 list_fits words h =
-    omega (arith, text-le entry_line waits_after 29 entry_line_le false (line_words words), words_long words 0 (cycles_in (length words)))
+    omega (arith, text_le entry_line waits_after 29 entry_line_le false (line_words words), words_long words 0 (cycles_in (length words)))
 
 answer_line_le : (waits : Bool) (line : List ℕ) → length (answer_line waits line) ≤ 53
 unfolding answer_line
@@ -63,4 +63,4 @@ answer_line_le waits line = by_value (line_tells waits line).told.value
 pub answers_fit : (s : Reading) (bytes : List ℕ) → length bytes ≤ 4096 → length (answers_of s (lines_of bytes)) ≤ 217088
 unfolding answers_of
 answers_fit s bytes h =
-    omega (arith, text-le answer_to after_line 53 (λ s line. answer_line_le s.waits line) s (lines_of bytes), lines_le bytes)
+    omega (arith, text_le answer_to after_line 53 (λ s line. answer_line_le s.waits line) s (lines_of bytes), lines_le bytes)

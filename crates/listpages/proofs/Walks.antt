@@ -28,8 +28,8 @@ module _ {S A : Type 0} (line : S → A → List ℕ) (next : S → A → S) whe
     total : length w.done + length (text_from line next s rest) ≡ length all
     total = sym (length-append w.done (text_from line next s rest)) ∙ ap length w.whole
 
-    pub at-le : at ≤ length text
-    at-le = omega (arith, total, w.put.end, w.long, enough)
+    pub at_le : at ≤ length text
+    at_le = omega (arith, total, w.put.end, w.long, enough)
 
     module _ (x : A) (xs : List A) (e : rest ≡ x ∷ xs) where
       more : length (text_from line next s rest) ≡ length (line s x) + length (text_from line next (next s x) xs)
@@ -40,13 +40,13 @@ module _ {S A : Type 0} (line : S → A → List ℕ) (next : S → A → S) whe
 
       module _ (r : Line) (part : List ℕ) (m : Makes (line s x) r (take (length text - at) (drop at text)) part) where
         pub grown : at + bytes_in r ≤ length text
-        grown = omega (arith, made_bytes (line s x) r text part at at-le m room, room)
+        grown = omega (arith, made_bytes (line s x) r text part at at_le m room, room)
 
         pub turn : Walks all start (changed text at part) (at + bytes_in r) (next s x) xs
         turn = record {
           done = w.done ++ line s x;
-          long = made_long (line s x) r text part at at-le m room ∙ w.long;
-          put = puts_both w.put (made_at (line s x) r text part at at-le m room);
+          long = made_long (line s x) r text part at at_le m room ∙ w.long;
+          put = puts_both w.put (made_at (line s x) r text part at at_le m room);
           whole =
               append_assoc w.done (line s x) (text_from line next (next s x) xs)
               ∙ ap (λ (ys : List A). w.done ++ text_from line next s ys) (sym e)
@@ -59,7 +59,7 @@ module _ {S A : Type 0} (line : S → A → List ℕ) (next : S → A → S) whe
         (sym (append-nil w.done) ∙ ap (λ (ys : List A). w.done ++ text_from line next s ys) (sym e) ∙ w.whole) w.put
 
   -- no text is longer than its lines' bound times their number
-  pub text-le : (most : ℕ) → ((s : S) (x : A) → length (line s x) ≤ most) → (s : S) (xs : List A) → length (text_from line next s xs) ≤ most * length xs
-  text-le most h s [] = omega arith
-  text-le most h s (x ∷ xs) =
-      rw (length-append (line s x) (text_from line next (next s x) xs), mul-suc) (omega (arith, h s x, text-le most h (next s x) xs))
+  pub text_le : (most : ℕ) → ((s : S) (x : A) → length (line s x) ≤ most) → (s : S) (xs : List A) → length (text_from line next s xs) ≤ most * length xs
+  text_le most h s [] = omega arith
+  text_le most h s (x ∷ xs) =
+      rw (length-append (line s x) (text_from line next (next s x) xs), mul-suc) (omega (arith, h s x, text_le most h (next s x) xs))

@@ -8,7 +8,7 @@ use Rattle.lines.specs.Putting.{Puts}
 use Rattle.listpages.specs.declared.Reading.{Reading}
 use Rattle.listpages.specs.declared.LinesRead.{LinesRead}
 use Rattle.listpages.specs.declared.Joined.{Joined}
-use Rattle.listpages.specs.Walking.{text_from, stateAfter}
+use Rattle.listpages.specs.Walking.{text_from, state_after}
 use Rattle.listpages.specs.Entries.{answer_line, waits_next, is_refused}
 
 -- a byte in front of the first of some lines
@@ -36,7 +36,7 @@ unfoldable pub answers_of : Reading → List (List ℕ) → List ℕ
 answers_of s lines = text_from answer_to after_line s lines
 
 unfoldable pub reading_after : Reading → List (List ℕ) → Reading
-reading_after s lines = stateAfter after_line s lines
+reading_after s lines = state_after after_line s lines
 
 -- so many bytes are taken at once
 abbrev pub piece_bytes : ℕ

@@ -8,6 +8,6 @@ module _ {S A : Type 0} (line : S → A → List ℕ) (next : S → A → S) whe
 
 module _ {S A : Type 0} (next : S → A → S) where
   -- the state after them
-  abbrev pub stateAfter : S → List A → S
-  stateAfter s [] = s
-  stateAfter s (x ∷ xs) = stateAfter (next s x) xs
+  abbrev pub state_after : S → List A → S
+  state_after s [] = s
+  state_after s (x ∷ xs) = state_after (next s x) xs

@@ -1,5 +1,5 @@
--- What a cycle keeps. About a word with the byte mark: every upper byte (`byte-keeps`). About Test and NOOP: every
--- register but D, which DLE may latch (`family-test`, `family-noop`).
+-- What a cycle keeps. About a word with the byte mark: every upper byte (`byte_keeps`). About Test and NOOP: every
+-- register but D, which DLE may latch (`family_test`, `family_noop`).
 use mathlib.Core.Path.{◌≡◌, refl, ◌∙◌, sym, ap, subst⁻¹}
 use mathlib.Core.Bool.{Bool, true, false}
 use mathlib.Core.List.{List, map}
@@ -12,7 +12,7 @@ use Rattle.choice.specs.Pick.{pick}
 use Rattle.choice.specs.Checks.{refusal}
 use Rattle.choice.specs.Tells.{accepted, refused}
 use Rattle.choice.proofs.Spans.{never}
-use Rattle.choice.proofs.Tells.{accepted-refused}
+use Rattle.choice.proofs.Tells.{accepted_refused}
 use Rattle.alu.specs.declared.Mode.{Mode}
 use Rattle.alu.specs.declared.Mode.TheVariants.{Byte}
 use Rattle.alu.specs.Width.{write_back}
@@ -61,21 +61,21 @@ acc_upper ToAccAndStatus y acc = written_high 8 acc y
 
 -- a byte write keeps upper bytes, whatever it writes
 module _ (k : ℕ) (r : Registers) (e : Effect) (pins : ℕ) where
-  pub settled-ram : map upper_byte (settled_of Byte k r e pins).ram ≡ map upper_byte r.ram
+  pub settled_ram_lem : map upper_byte (settled_of Byte k r e pins).ram ≡ map upper_byte r.ram
   unfolding settled_of
-  settled-ram = by-test (ien_high pins)
+  settled_ram_lem = by_test (ien_high pins)
     where
-      by-test : (b : Bool) → map upper_byte (pick b r.ram (ram_after e.destination Byte k e.result r.ram)) ≡ map upper_byte r.ram
-      by-test true = refl
-      by-test false = ram_upper e.destination k e.result r.ram
+      by_test : (b : Bool) → map upper_byte (pick b r.ram (ram_after e.destination Byte k e.result r.ram)) ≡ map upper_byte r.ram
+      by_test true = refl
+      by_test false = ram_upper e.destination k e.result r.ram
 
-  pub settled-acc : upper_byte (settled_of Byte k r e pins).acc ≡ upper_byte r.acc
+  pub settled_acc_lem : upper_byte (settled_of Byte k r e pins).acc ≡ upper_byte r.acc
   unfolding settled_of
-  settled-acc = by-test (ien_high pins)
+  settled_acc_lem = by_test (ien_high pins)
     where
-      by-test : (b : Bool) → upper_byte (pick b r.acc (acc_after e.destination Byte e.result r.acc)) ≡ upper_byte r.acc
-      by-test true = refl
-      by-test false = acc_upper e.destination e.result r.acc
+      by_test : (b : Bool) → upper_byte (pick b r.acc (acc_after e.destination Byte e.result r.acc)) ≡ upper_byte r.acc
+      by_test true = refl
+      by_test false = acc_upper e.destination e.result r.acc
 
 -- a cycle about a word with the byte mark keeps the upper byte of every RAM word and of ACC
 module _ (m : Machine) (c : Words) (mark : mark_of (instruction_word m c) ≡ 0) where
@@ -84,29 +84,29 @@ module _ (m : Machine) (c : Words) (mark : mark_of (instruction_word m c) ≡ 0)
   unfolding plan_of
   byte = ap mode_of mark
 
-  pub byte-keeps : UpperBytesKept m.registers (cycle_of m c).machine.registers
-  byte-keeps = every_way m c (λ (t : Turned). UpperBytesKept m.registers t.machine.registers) (record {
+  pub byte_keeps : UpperBytesKept m.registers (cycle_of m c).machine.registers
+  byte_keeps = every_way m c (λ (t : Turned). UpperBytesKept m.registers t.machine.registers) (record {
     refuses = λ k n. record { ram = refl; acc = refl };
     waits = λ x i. record { ram = refl; acc = refl };
     performs = λ n.
         let p : Plan = plan_of (named_by (instruction_word m c)) in
         let e : Effect = effect_from p (before m c) (operand_word m c) in
         subst⁻¹ (λ (d : Mode). UpperBytesKept m.registers (settled_of d p.register (before m c) e c.pins)) byte
-        (record { ram = settled-ram p.register (before m c) e c.pins; acc = settled-acc p.register (before m c) e c.pins });
+        (record { ram = settled_ram_lem p.register (before m c) e c.pins; acc = settled_acc_lem p.register (before m c) e c.pins });
   })
 
 -- a word of a family without an I operand takes none
 module _ (f : Family) (w : ℕ) (h : InFamily f w) where
-  abbrev by-family : Family → Bool
-  by-family f = asks_i (row_at (number_of f)) (field_a w) (field_b w)
+  abbrev by_family : Family → Bool
+  by_family f = asks_i (row_at (number_of f)) (field_a w) (field_b w)
 
-  takes_none : by-family f ≡ false → takes_immediate w ≡ false
+  takes_none : by_family f ≡ false → takes_immediate w ≡ false
   unfolding takes_immediate decode_of
-  takes_none none = by-test (eqb (refusal (word_checks w)) 0)
+  takes_none none = by_test (eqb (refusal (word_checks w)) 0)
     where
-      by-test : (b : Bool) → names_i (pick b (accepted (named_by w)) (refused (refusal (word_checks w)))).value ≡ false
-      by-test true = ap by-family (family_in f w h) ∙ none
-      by-test false = refl
+      by_test : (b : Bool) → names_i (pick b (accepted (named_by w)) (refused (refusal (word_checks w)))).value ≡ false
+      by_test true = ap by_family (family_in f w h) ∙ none
+      by_test false = refl
 
 no_immediate : (a b : ℕ) → asks_i (row_at (number_of Noop)) a b ≡ false
 no_immediate a b = rw (zero-div (2 ^ a), zero-div (2 ^ (16 + b)))
@@ -119,42 +119,42 @@ module _ (mode : Mode) (n k : ℕ) (by : Chooser) (r : Registers) (immediate pin
   stays false true = refl
   stays false false = refl
 
-  noop-stays : settled_of mode k r (effect_from (record { mode = mode; n = n; register = k; work = idle NoOperation by }) r immediate) pins ≡ with_waiting r Nothing
+  noop_stays : settled_of mode k r (effect_from (record { mode = mode; n = n; register = k; work = idle NoOperation by }) r immediate) pins ≡ with_waiting r Nothing
   unfolding settled_of effect_of outcome_for view_of
-  noop-stays = stays (ien_high pins) (both_low pins)
+  noop_stays = stays (ien_high pins) (both_low pins)
 
-  test-stays : settled_of mode k r (effect_from (record { mode = mode; n = n; register = k; work = idle TestStatus by }) r immediate) pins ≡ with_waiting r Nothing
+  test_stays : settled_of mode k r (effect_from (record { mode = mode; n = n; register = k; work = idle TestStatus by }) r immediate) pins ≡ with_waiting r Nothing
   unfolding settled_of effect_of outcome_for view_of
-  test-stays = stays (ien_high pins) (both_low pins)
+  test_stays = stays (ien_high pins) (both_low pins)
 
 -- an accepted cycle of a word of a family without an I operand leaves what settling its plan leaves
 module _ (m : Machine) (c : Words) (rep : Report) (answered : (cycle_of m c).answer ≡ accepted rep) (f : Family) where
   abbrev w : ℕ
   w = instruction_word m c
 
-  abbrev settledAs : Family → Registers
-  settledAs g =
+  abbrev settled_as : Family → Registers
+  settled_as g =
       settled_of (mode_of (mark_of w)) (field_c w % 32) (before m c)
       (effect_from (record { mode = mode_of (mark_of w); n = field_a w % 16; register = field_c w % 32; work = work_of g (field_a w % 16) (field_b w % 16) (field_c w % 32) })
       (before m c) (operand_word m c))
       c.pins
 
-  settles : InFamily f w → asks_i (row_at (number_of f)) (field_a w) (field_b w) ≡ false → (cycle_of m c).machine ≡ machine_of (settledAs f)
+  settles : InFamily f w → asks_i (row_at (number_of f)) (field_a w) (field_b w) ≡ false → (cycle_of m c).machine ≡ machine_of (settled_as f)
   unfolding plan_of
-  settles h none = every_way m c (λ (t : Turned). t.answer ≡ accepted rep → t.machine ≡ machine_of (settledAs f)) (record {
-    refuses = λ k n e. absurd (accepted-refused rep k (sym e));
+  settles h none = every_way m c (λ (t : Turned). t.answer ≡ accepted rep → t.machine ≡ machine_of (settled_as f)) (record {
+    refuses = λ k n e. absurd (accepted_refused rep k (sym e));
     waits = λ x i e.
         let same : w ≡ c.lines = ap (λ (x : Waiting). word_about x c.lines) x in
         absurd (never (sym (takes_none f w h none) ∙ ap takes_immediate same ∙ i));
-    performs = λ n e. ap (λ (g : Family). machine_of (settledAs g)) (family_in f w h);
+    performs = λ n e. ap (λ (g : Family). machine_of (settled_as g)) (family_in f w h);
   }) answered
 
 -- NOOP and Test leave every register as it was, but for D by DLE, and nothing waiting
 module _ (m : Machine) (c : Words) (rep : Report) (answered : (cycle_of m c).answer ≡ accepted rep) where
-  pub family-noop : InFamily Noop (instruction_word m c) → (cycle_of m c).machine ≡ machine_of (with_waiting (before m c) Nothing)
+  pub family_noop : InFamily Noop (instruction_word m c) → (cycle_of m c).machine ≡ machine_of (with_waiting (before m c) Nothing)
   unfolding work_of
-  family-noop h = settles m c rep answered Noop h (no_immediate (field_a (instruction_word m c)) (field_b (instruction_word m c))) ∙ ap machine_of (noop-stays _ _ _ _ (before m c) _ c.pins)
+  family_noop h = settles m c rep answered Noop h (no_immediate (field_a (instruction_word m c)) (field_b (instruction_word m c))) ∙ ap machine_of (noop_stays _ _ _ _ (before m c) _ c.pins)
 
-  pub family-test : InFamily Test (instruction_word m c) → (cycle_of m c).machine ≡ machine_of (with_waiting (before m c) Nothing)
+  pub family_test : InFamily Test (instruction_word m c) → (cycle_of m c).machine ≡ machine_of (with_waiting (before m c) Nothing)
   unfolding work_of
-  family-test h = settles m c rep answered Test h (no_immediate (field_a (instruction_word m c)) (field_b (instruction_word m c))) ∙ ap machine_of (test-stays _ _ _ _ (before m c) _ c.pins)
+  family_test h = settles m c rep answered Test h (no_immediate (field_a (instruction_word m c)) (field_b (instruction_word m c))) ∙ ap machine_of (test_stays _ _ _ _ (before m c) _ c.pins)

@@ -1,4 +1,4 @@
--- `shown-in-mask`, at the end: a reported mask is 0000, 00FF or FFFF, and Y has no bit outside it. Of a machine whose status is below 256,
+-- `shown_in_mask`, at the end: a reported mask is 0000, 00FF or FFFF, and Y has no bit outside it. Of a machine whose status is below 256,
 -- as any machine's is: it is a byte.
 use mathlib.Core.Path.{◌≡◌, refl, ◌∙◌, sym, ap, subst}
 use mathlib.Core.Bool.{Bool, true, false}
@@ -9,14 +9,14 @@ use native.Mathlib.Omega.{arith}
 use lib.Bits.{bit_and, and_mask, and_zero_l}
 use Rattle.choice.specs.Pick.{pick}
 use Rattle.choice.specs.Tells.{accepted}
-use Rattle.choice.proofs.Tells.{accepted-one, accepted-refused}
+use Rattle.choice.proofs.Tells.{accepted_one, accepted_refused}
 use Rattle.alu.specs.declared.Mode.{Mode}
 use Rattle.alu.specs.declared.Mode.TheVariants.{Byte, Word}
 use Rattle.alu.specs.declared.Operation.{Operation}
 use Rattle.alu.specs.Width.{width_of}
 use Rattle.alu.specs.Operations.{outcome_of}
 use Rattle.alu.proofs.Fits.{width_positive}
-use Rattle.alu.proofs.Changes.{result-lt}
+use Rattle.alu.proofs.Changes.{result_lt}
 use Rattle.isa.specs.declared.Family.{Family}
 use Rattle.isa.specs.declared.Family.TheVariants.{Tor1, Rotr1, Rotr2, Rotc, Rotm, Sor, Bor2, Tor2, Shftr, Crcf, Crcr, Prt1, Prt2, Prt3, Svstr, Sonr, Tonr, Shftnr, Bor1, Bonr, Rotnr, Prtnr, Svstnr, Setst, Rstst, Test, Noop}
 use Rattle.isa.specs.declared.Named.{Named}
@@ -29,7 +29,7 @@ use Rattle.machine.specs.declared.Machine.{Machine}
 use Rattle.machine.specs.declared.Words.{Words}
 use Rattle.machine.specs.declared.View.{View}
 use Rattle.machine.specs.declared.Report.{Report}
-use Rattle.machine.specs.Pins.{oe_yHigh}
+use Rattle.machine.specs.Pins.{oe_y_high}
 use Rattle.machine.specs.Seeing.{view_of}
 use Rattle.machine.specs.Acting.{width_mask, outcome_for, mask_of, effect_of}
 use Rattle.machine.specs.Reporting.{KnownBits}
@@ -37,12 +37,12 @@ use Rattle.machine.specs.Cycles.{Turned, cycle_of, before, instruction_word, ope
 use Rattle.machine.proofs.Ways.{every_way}
 
 width_fits : (mode : Mode) (o : Operation) (status : ℕ) → (outcome_of (width_of mode) o status).result ≤ width_mask mode
-width_fits Byte o status = omega (arith, result-lt 8 (width_positive Byte) o status)
-width_fits Word o status = omega (arith, result-lt 16 (width_positive Word) o status)
+width_fits Byte o status = omega (arith, result_lt 8 (width_positive Byte) o status)
+width_fits Word o status = omega (arith, result_lt 16 (width_positive Word) o status)
 
 whole_fits : (mode : Mode) (o : Operation) (status : ℕ) → (outcome_of (width_of mode) o status).result ≤ 0xFFFF
-whole_fits Byte o status = omega (arith, result-lt 8 (width_positive Byte) o status)
-whole_fits Word o status = omega (arith, result-lt 16 (width_positive Word) o status)
+whole_fits Byte o status = omega (arith, result_lt 8 (width_positive Byte) o status)
+whole_fits Word o status = omega (arith, result_lt 16 (width_positive Word) o status)
 
 -- the plan of some fields
 abbrev planned : Mode → ℕ → ℕ → Family → ℕ → ℕ → ℕ → Plan
@@ -109,19 +109,19 @@ module _ (m : Machine) (c : Words) (small : m.registers.status < 256) where
   abbrev v : View
   v = view_of n.mode (n.c % 32) (before m c) (operand_word m c)
 
-  effect-known : KnownBits (effect_of (plan_of n) v).shown (effect_of (plan_of n) v).mask
+  effect_known : KnownBits (effect_of (plan_of n) v).shown (effect_of (plan_of n) v).mask
   unfolding plan_of effect_of view_of
-  effect-known =
+  effect_known =
       known _ _ (masks_known (plan_of n).work.shown n.mode)
       (effect_fits n.family n.mode (n.a % 16) (n.c % 32) (n.a % 16) (n.b % 16) (n.c % 32) v small)
 
   told : (rep x : Report) → accepted x ≡ accepted rep → KnownBits x.y x.mask → KnownBits rep.y rep.mask
-  told rep x e = subst (λ (s : Report). KnownBits s.y s.mask) (accepted-one x rep e)
+  told rep x e = subst (λ (s : Report). KnownBits s.y s.mask) (accepted_one x rep e)
 
-  pub shown-in-mask : (rep : Report) → (cycle_of m c).answer ≡ accepted rep → KnownBits rep.y rep.mask
+  pub shown_in_mask : (rep : Report) → (cycle_of m c).answer ≡ accepted rep → KnownBits rep.y rep.mask
   unfolding plan_of
-  shown-in-mask rep = every_way m c (λ (t : Turned). t.answer ≡ accepted rep → KnownBits rep.y rep.mask) (record {
-    refuses = λ k n e. absurd (accepted-refused rep k (sym e));
+  shown_in_mask rep = every_way m c (λ (t : Turned). t.answer ≡ accepted rep → KnownBits rep.y rep.mask) (record {
+    refuses = λ k n e. absurd (accepted_refused rep k (sym e));
     waits = λ x i e. told rep _ e (known 0 0 (inl refl) zero-le);
-    performs = λ h e. told rep _ e (shown_or_not (oe_yHigh c.pins) _ _ effect-known);
+    performs = λ h e. told rep _ e (shown_or_not (oe_y_high c.pins) _ _ effect_known);
   })

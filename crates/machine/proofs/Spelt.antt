@@ -1,6 +1,6 @@
 -- Single cycles spelt out. An accepted cycle that completes an instruction, with IEN and SRE low, leaves what the plan of its word says
--- (`completed-leaves`); by the fields of the word for TOR1, TOR2, TONR, SOR and SONR (`tor1-cycle` and so on), to be read beside the data sheet.
--- At the end: a word without an I operand is performed at once (`performs-at-once`, `leaves-at-once`).
+-- (`completed_leaves`); by the fields of the word for TOR1, TOR2, TONR, SOR and SONR (`tor1_cycle` and so on), to be read beside the data sheet.
+-- At the end: a word without an I operand is performed at once (`performs_at_once`, `leaves_at_once`).
 use mathlib.Core.Path.{◌≡◌, refl, ◌∙◌, sym, ap}
 use mathlib.Core.Bool.{Bool, true, false, not}
 use mathlib.Core.List.{List, [], ◌∷◌}
@@ -13,7 +13,7 @@ use Rattle.choice.specs.Pick.{pick}
 use Rattle.choice.specs.Checks.{check, refusal}
 use Rattle.choice.specs.Tells.{Tells, accepted}
 use Rattle.choice.proofs.Spans.{never}
-use Rattle.choice.proofs.Tells.{accepted-one, accepted-refused, told-accepted}
+use Rattle.choice.proofs.Tells.{accepted_one, accepted_refused, told_accepted}
 use Rattle.alu.specs.declared.Mode.{Mode}
 use Rattle.alu.specs.declared.Operation.{Operation}
 use Rattle.alu.specs.declared.Operation.TheVariants.{TwoOperand as TwoOperandOn, OneOperand as OneOperandOn}
@@ -48,8 +48,8 @@ use Rattle.machine.proofs.Ways.{every_way}
 
 -- IEN and SRE low: the destination, and the status, are written
 module _ (mode : Mode) (k : ℕ) (r : Registers) (pins : ℕ) (low : both_low pins ≡ true) where
-  ien-low : ien_high pins ≡ false
-  ien-low = ne_eqb (pins % 2) 1 (λ o. omega (arith, eqb-true (pins % 4) 0 low))
+  ien_low : ien_high pins ≡ false
+  ien_low = ne_eqb (pins % 2) 1 (λ o. omega (arith, eqb-true (pins % 4) 0 low))
 
   -- nothing waits any more, and D stays
   abbrev holding : List ℕ → ℕ → ℕ → Registers
@@ -59,15 +59,15 @@ module _ (mode : Mode) (k : ℕ) (r : Registers) (pins : ℕ) (low : both_low pi
       → settled_of mode k r e pins
       ≡ holding (ram_after e.destination mode k e.result r.ram) (acc_after e.destination mode e.result r.acc) e.status
   unfolding settled_of
-  writes e = by-test (ien_high pins) (both_low pins) ien-low low
+  writes e = by_test (ien_high pins) (both_low pins) ien_low low
     where
-      by-test : (i b : Bool) → i ≡ false → b ≡ true
+      by_test : (i b : Bool) → i ≡ false → b ≡ true
           → holding (pick i r.ram (ram_after e.destination mode k e.result r.ram))
           (pick i r.acc (acc_after e.destination mode e.result r.acc)) (pick b e.status r.status)
           ≡ holding (ram_after e.destination mode k e.result r.ram) (acc_after e.destination mode e.result r.acc) e.status
-      by-test true b p q = absurd (never (sym p))
-      by-test false true p q = refl
-      by-test false false p q = absurd (never q)
+      by_test true b p q = absurd (never (sym p))
+      by_test false true p q = refl
+      by_test false false p q = absurd (never q)
 
 -- an accepted cycle that completes an instruction, with IEN and SRE low
 module _ (m : Machine) (c : Words) (rep : Report) (answered : (cycle_of m c).answer ≡ accepted rep) (completed : completions rep.completed ≡ 1)
@@ -84,20 +84,20 @@ module _ (m : Machine) (c : Words) (rep : Report) (answered : (cycle_of m c).ans
   sees k s = operand_of s (view_of mode k (before m c) (operand_word m c))
 
   -- what the plan of an instruction leaves: its outcome goes to the destination and the status
-  abbrev leftBy : Plan → Machine
-  leftBy p =
+  abbrev left_by : Plan → Machine
+  left_by p =
       machine_of (written p.mode p.register (before m c) p.work.destination
       (performed_of p (view_of p.mode p.register (before m c) (operand_word m c))))
 
   -- any instruction: its word's plan says what is left
-  pub completed-leaves : (cycle_of m c).machine ≡ leftBy (plan_of (named_by w))
+  pub completed_leaves : (cycle_of m c).machine ≡ left_by (plan_of (named_by w))
   unfolding effect_of view_of
-  completed-leaves =
+  completed_leaves =
       let p : Plan = plan_of (named_by w) in
-      every_way m c (λ (t : Turned). t.answer ≡ accepted rep → t.machine ≡ leftBy p) (record {
-        refuses = λ k n e. absurd (accepted-refused rep k (sym e));
+      every_way m c (λ (t : Turned). t.answer ≡ accepted rep → t.machine ≡ left_by p) (record {
+        refuses = λ k n e. absurd (accepted_refused rep k (sym e));
         waits = λ x i e.
-            let none : ◌≡◌ {A = ℕ} 0 1 = ap (λ (r : Report). completions r.completed) (accepted-one _ rep e) ∙ completed in
+            let none : ◌≡◌ {A = ℕ} 0 1 = ap (λ (r : Report). completions r.completed) (accepted_one _ rep e) ∙ completed in
             absurd (omega (arith, none));
         performs = λ h e.
             ap machine_of (writes p.mode p.register (before m c) c.pins low (effect_from p (before m c) (operand_word m c)));
@@ -107,63 +107,63 @@ module _ (m : Machine) (c : Words) (rep : Report) (answered : (cycle_of m c).ans
   abbrev planned : Family → ℕ → ℕ → ℕ → Plan
   planned f a b c = record { mode = mode; n = a; register = c; work = work_of f a b c }
 
-  plan-by : (f : Family) → InFamily f w → plan_of (named_by w) ≡ planned f (field_a w) (field_b w) (field_c w)
+  plan_by : (f : Family) → InFamily f w → plan_of (named_by w) ≡ planned f (field_a w) (field_b w) (field_c w)
   unfolding plan_of
-  plan-by f h =
+  plan_by f h =
       ap (λ (g : Family). planned g (field_a w % 16) (field_b w % 16) (field_c w % 32)) (family_in f w h)
       ∙ rw (mod-mod (w / 0x200) 16, mod-mod (w / 0x20) 16, mod-mod w 32)
 
-  by-family : (f : Family) → InFamily f w → (cycle_of m c).machine ≡ leftBy (planned f (field_a w) (field_b w) (field_c w))
-  by-family f h = completed-leaves ∙ ap leftBy (plan-by f h)
+  by_family : (f : Family) → InFamily f w → (cycle_of m c).machine ≡ left_by (planned f (field_a w) (field_b w) (field_c w))
+  by_family f h = completed_leaves ∙ ap left_by (plan_by f h)
 
   -- an operation's outcome at the mode's width goes to a destination, register C where that is RAM
   abbrev leaves : Destination → Operation → Machine
   leaves d o = machine_of (written mode (field_c w) (before m c) d (outcome_of (width_of mode) o m.registers.status))
 
   -- the two-operand families
-  pub tor1-cycle : InFamily Tor1 w
+  pub tor1_cycle : InFamily Tor1 w
       → (cycle_of m c).machine
       ≡ leaves (at ram_pair_to (field_a w)) (TwoOperandOn (at two_operands (field_b w)) (sees (field_c w) (at ram_pair_r (field_a w))) (sees (field_c w) (at ram_pair_s (field_a w))))
   unfolding work_of outcome_for view_of
-  tor1-cycle h = by-family Tor1 h
+  tor1_cycle h = by_family Tor1 h
 
-  pub tor2-cycle : InFamily Tor2 w
+  pub tor2_cycle : InFamily Tor2 w
       → (cycle_of m c).machine
       ≡ leaves ToRam (TwoOperandOn (at two_operands (field_b w)) (sees (field_c w) (at pair_r (field_a w))) (sees (field_c w) (at pair_s (field_a w))))
   unfolding work_of outcome_for view_of
-  tor2-cycle h = by-family Tor2 h
+  tor2_cycle h = by_family Tor2 h
 
-  pub tonr-cycle : InFamily Tonr w
+  pub tonr_cycle : InFamily Tonr w
       → (cycle_of m c).machine
       ≡ leaves (at no_ram_to (field_c w)) (TwoOperandOn (at two_operands (field_b w)) (sees (field_c w) (at pair_r (field_a w))) (sees (field_c w) (at pair_s (field_a w))))
   unfolding work_of outcome_for view_of
-  tonr-cycle h = by-family Tonr h
+  tonr_cycle h = by_family Tonr h
 
   -- the one-operand families: MOVE, COMP, INC, NEG
-  pub sor-cycle : InFamily Sor w
+  pub sor_cycle : InFamily Sor w
       → (cycle_of m c).machine ≡ leaves (at sor_to (field_b w)) (OneOperandOn (at one_operands (field_a w)) (sees (field_c w) (at sources (field_b w))))
   unfolding work_of outcome_for view_of
-  sor-cycle h = by-family Sor h
+  sor_cycle h = by_family Sor h
 
-  pub sonr-cycle : InFamily Sonr w
+  pub sonr_cycle : InFamily Sonr w
       → (cycle_of m c).machine ≡ leaves (at no_ram_to (field_c w)) (OneOperandOn (at one_operands (field_a w)) (sees (field_c w) (at sources (field_b w))))
   unfolding work_of outcome_for view_of
-  sonr-cycle h = by-family Sonr h
+  sonr_cycle h = by_family Sonr h
 
 -- with nothing waiting, a cycle whose word is accepted and has no I operand, and whose pins are in order, performs the word's instruction
 module _ (m : Machine) (c : Words) (i : Named) (idle : m.registers.waiting ≡ Nothing) (stray : stray_pin c.pins ≡ false)
     (clash : bus_clash c.pins ≡ false) (word : decode_of c.lines ≡ accepted i) (single : asks_i (named_row i) i.a i.b ≡ false) where
   named : named_by c.lines ≡ i
   unfolding decode_of
-  named = (told-accepted (refusal (word_checks c.lines)) (named_by c.lines) i word).1
+  named = (told_accepted (refusal (word_checks c.lines)) (named_by c.lines) i word).1
 
   no_immediate : takes_immediate c.lines ≡ false
   unfolding takes_immediate
   no_immediate = ap (λ (t : Tells Named). names_i t.value) word ∙ single
 
-  judged-at-once : judgement_of Nothing c ≡ perform i 0
+  judged_at_once : judgement_of Nothing c ≡ perform i 0
   unfolding judgement_of
-  judged-at-once =
+  judged_at_once =
       begun (stray_pin c.pins) (bus_clash c.pins) (decode_of c.lines).number (takes_immediate c.lines) (named_by c.lines) stray clash
       (ap (λ (t : Tells Named). t.number) word) no_immediate named
     where
@@ -173,20 +173,20 @@ module _ (m : Machine) (c : Words) (i : Named) (idle : m.registers.waiting ≡ N
           ≡ perform i 0
       begun five six number immediate n e f k t same = rw (e, f, k, t, same)
 
-  pub performs-at-once : cycle_of m c ≡ turn_of (perform i 0) m (latched m.registers c.input c.pins) c
+  pub performs_at_once : cycle_of m c ≡ turn_of (perform i 0) m (latched m.registers c.input c.pins) c
   unfolding cycle_of
-  performs-at-once =
+  performs_at_once =
       let r = latched m.registers c.input c.pins in
-      ap (λ (w : Waiting). turn_of (judgement_of w c) m r c) idle ∙ ap (λ (j : Judgement). turn_of j m r c) judged-at-once
+      ap (λ (w : Waiting). turn_of (judgement_of w c) m r c) idle ∙ ap (λ (j : Judgement). turn_of j m r c) judged_at_once
 
   -- and with IEN and SRE low, its destination and the status take what its operation gives
-  pub leaves-at-once : both_low c.pins ≡ true
+  pub leaves_at_once : both_low c.pins ≡ true
       → let p : Plan = plan_of i in
       let r : Registers = latched m.registers c.input c.pins in
       (cycle_of m c).machine ≡ machine_of (written p.mode p.register r p.work.destination (performed_of p (view_of p.mode p.register r 0)))
   unfolding effect_of view_of
-  leaves-at-once low =
+  leaves_at_once low =
       let p : Plan = plan_of i in
       let r : Registers = latched m.registers c.input c.pins in
-      ap (λ (t : Turned). t.machine) performs-at-once
+      ap (λ (t : Turned). t.machine) performs_at_once
       ∙ ap machine_of (writes p.mode p.register r c.pins low (effect_from p r 0))

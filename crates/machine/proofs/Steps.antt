@@ -1,5 +1,5 @@
 -- A step's ways out: RAM in place and the core are the registers of the definition; and a step has one outcome.
--- The laws, in this order: `step-unique`, `core_of_unique`, `machine_from_unique`.
+-- The laws, in this order: `step_unique`, `core_of_unique`, `machine_from_unique`.
 use mathlib.Core.Path.{◌≡◌, refl, ◌∙◌, sym, ap, subst}
 use mathlib.Core.Bool.{Bool, true, false}
 use mathlib.Core.List.{List, [], ◌∷◌}
@@ -9,7 +9,7 @@ use lib.ListN.{get_or, set}
 use borrow.Author.Tests.{eqb-true, eqb-false}
 use Rattle.choice.specs.Pick.{pick}
 use Rattle.choice.specs.Tells.{Tells, tells}
-use Rattle.choice.proofs.Tells.{tells-accepted, tells-refused, told-number, accepted-one}
+use Rattle.choice.proofs.Tells.{tells_accepted, tells_refused, told_number, accepted_one}
 use Rattle.alu.specs.declared.Mode.{Mode}
 use Rattle.isa.specs.declared.Named.{Named}
 use Rattle.isa.specs.Words.{named_by}
@@ -27,7 +27,7 @@ use Rattle.machine.specs.declared.Completed.TheVariants.{NoInstruction, Instruct
 use Rattle.machine.specs.declared.Effect.{Effect}
 use Rattle.machine.specs.declared.Report.{Report}
 use Rattle.machine.specs.Judging.{Judgement, Refuse, Wait, Perform, word_about}
-use Rattle.machine.specs.Pins.{ien_high, oe_yHigh}
+use Rattle.machine.specs.Pins.{ien_high, oe_y_high}
 use Rattle.machine.specs.Seeing.{view_of}
 use Rattle.machine.specs.Acting.{effect_of}
 use Rattle.machine.specs.Settling.{latched, ram_after, settled_of}
@@ -35,7 +35,7 @@ use Rattle.machine.specs.Deciding.{verdict_of}
 use Rattle.machine.specs.Reporting.{ct_of, t_of}
 use Rattle.machine.specs.Cycles.{Turned, performed_turn, turn_of, cycle_of}
 use Rattle.machine.specs.Stepping.{registers_of, machine_from, core_of, report_in, step_tells, refused_step, Steps, latched_core, seen_of, word_after, settled_word, settled_ram, settled_core, waiting_step, Performed}
-use Rattle.machine.proofs.Decided.{judgement_in, judgement_flat, in-refused, in-waiting, in-performed}
+use Rattle.machine.proofs.Decided.{judgement_in, judgement_flat, in_refused, in_waiting, in_performed}
 
 -- a word put where it stands changes nothing
 set_same : (l : List ℕ) (i : ℕ) → set l i (get_or l i 0) ≡ l
@@ -66,8 +66,8 @@ abbrev performed_step : Named → Plan → Core → Core → Effect → ℕ → 
 performed_step n p before after e pins = record {
   core = after;
   refusal = 0;
-  y = pick (oe_yHigh pins) 0 e.shown;
-  mask = pick (oe_yHigh pins) 0 e.mask;
+  y = pick (oe_y_high pins) 0 e.shown;
+  mask = pick (oe_y_high pins) 0 e.mask;
   ct = ct_of p.work.chooser before.status pins;
   t = t_of after.status pins;
   begins = false;
@@ -91,9 +91,9 @@ module _ (ram : List ℕ) (k : Core) (c : Words) (j : Verdict) (e : j ≡ verdic
       ap (λ (x : Judgement). turn_of x m (latched m.registers c.input c.pins) c)
       (sym q ∙ ap judgement_in e ∙ sym (judgement_flat k.waiting c))
 
-  named-by : j.named ≡ named_by (word_about k.waiting c.lines)
+  named_by_lem : j.named ≡ named_by (word_about k.waiting c.lines)
   unfolding verdict_of
-  named-by = ap (λ (j : Verdict). j.named) e
+  named_by_lem = ap (λ (j : Verdict). j.named) e
 
   -- an accepted step is not a refused one
   shown : (s : Stepped) → s.refusal ≡ 0 → (s.refusal ≡ 0 → ⊥) → s ≡ refused_step s.named k s.refusal
@@ -103,26 +103,26 @@ module _ (ram : List ℕ) (k : Core) (c : Words) (j : Verdict) (e : j ≡ verdic
   refuses n s f =
       subst (λ (s : Stepped). Steps ram k c s ram) (sym f) (record {
         turn =
-            ap (λ (t : Tells Report). record { machine = m; answer = t }) (tells-refused j.refusal (report_in (refused_step j.named k j.refusal)) n)
-            ∙ turn_by (Refuse j.refusal) (in-refused j n);
-        named = named-by;
+            ap (λ (t : Tells Report). record { machine = m; answer = t }) (tells_refused j.refusal (report_in (refused_step j.named k j.refusal)) n)
+            ∙ turn_by (Refuse j.refusal) (in_refused j n);
+        named = named_by_lem;
         blank = λ n. refl;
       })
 
   module _ (z : j.refusal ≡ 0) (b : Core) (g : b ≡ latched_core k c.input c.pins) where
-    pub waits-first : j.begins ≡ true → (s : Stepped) → s ≡ waiting_step j.named b c → Steps ram k c s ram
-    waits-first t s f = record {
-      turn = ap (step_tells ram) (f ∙ ap (λ (b : Core). waiting_step j.named b c) g) ∙ turn_by Wait (in-waiting j z t);
-      named = ap (λ (s : Stepped). s.named) f ∙ named-by;
+    pub waits_first : j.begins ≡ true → (s : Stepped) → s ≡ waiting_step j.named b c → Steps ram k c s ram
+    waits_first t s f = record {
+      turn = ap (step_tells ram) (f ∙ ap (λ (b : Core). waiting_step j.named b c) g) ∙ turn_by Wait (in_waiting j z t);
+      named = ap (λ (s : Stepped). s.named) f ∙ named_by_lem;
       blank = shown s (ap (λ (s : Stepped). s.refusal) f);
     }
 
-    pub performs-last : j.begins ≡ false → (s : Stepped) (after : List ℕ) → Performed ram j.named j.plan b j.immediate c.pins s after → Steps ram k c s after
-    performs-last t s after p = record {
+    pub performs_last : j.begins ≡ false → (s : Stepped) (after : List ℕ) → Performed ram j.named j.plan b j.immediate c.pins s after → Steps ram k c s after
+    performs_last t s after p = record {
       turn =
           p.turn ∙ ap (λ (b : Core). performed_turn j.named j.plan (registers_of ram b) j.immediate c.pins) g
-          ∙ turn_by (Perform j.named j.plan j.immediate) (in-performed j z t);
-      named = p.named ∙ named-by;
+          ∙ turn_by (Perform j.named j.plan j.immediate) (in_performed j z t);
+      named = p.named ∙ named_by_lem;
       blank = shown s p.accepted;
     }
 
@@ -157,28 +157,28 @@ module _ (ram : List ℕ) (k : Core) (c : Words) (s t : Stepped) (x y : List ℕ
   answers = ap (λ (u : Turned). u.answer) turns
 
   numbers : s.refusal ≡ t.refusal
-  numbers = sym (told-number s.refusal (report_in s)) ∙ ap (λ (a : Tells Report). a.number) answers ∙ told-number t.refusal (report_in t)
+  numbers = sym (told_number s.refusal (report_in s)) ∙ ap (λ (a : Tells Report). a.number) answers ∙ told_number t.refusal (report_in t)
 
   names : s.named ≡ t.named
   names = f.named ∙ sym g.named
 
-  accepted-same : s.refusal ≡ 0 → s ≡ t
-  accepted-same z =
-      let reports : report_in s ≡ report_in t = accepted-one (report_in s) (report_in t)
-      (sym (tells-accepted s.refusal (report_in s) z) ∙ answers ∙ tells-accepted t.refusal (report_in t) (sym numbers ∙ z)) in
+  accepted_same : s.refusal ≡ 0 → s ≡ t
+  accepted_same z =
+      let reports : report_in s ≡ report_in t = accepted_one (report_in s) (report_in t)
+      (sym (tells_accepted s.refusal (report_in s) z) ∙ answers ∙ tells_accepted t.refusal (report_in t) (sym numbers ∙ z)) in
       sym (made_back s) ∙ same_made (ap (λ (u : Turned). core_of u.machine.registers) turns) numbers reports names ∙ made_back t
 
-  refused-same : (s.refusal ≡ 0 → ⊥) → s ≡ t
-  refused-same n =
+  refused_same : (s.refusal ≡ 0 → ⊥) → s ≡ t
+  refused_same n =
       f.blank n ∙ ap (λ (m : Named). refused_step m k s.refusal) names ∙ ap (refused_step t.named k) numbers
       ∙ sym (g.blank (λ z. n (numbers ∙ z)))
 
-  by-test : (b : Bool) → eqb s.refusal 0 ≡ b → s ≡ t
-  by-test true q = accepted-same (eqb-true s.refusal 0 q)
-  by-test false q = refused-same (eqb-false s.refusal 0 q)
+  by_test : (b : Bool) → eqb s.refusal 0 ≡ b → s ≡ t
+  by_test true q = accepted_same (eqb-true s.refusal 0 q)
+  by_test false q = refused_same (eqb-false s.refusal 0 q)
 
-  pub step-unique : (s ≡ t) × (x ≡ y)
-  step-unique = (by-test (eqb s.refusal 0) refl, ap (λ (u : Turned). u.machine.registers.ram) turns)
+  pub step_unique : (s ≡ t) × (x ≡ y)
+  step_unique = (by_test (eqb s.refusal 0) refl, ap (λ (u : Turned). u.machine.registers.ram) turns)
 
 -- and those of taking a machine apart and of putting one together
 pub core_of_unique : (r : Registers) (k l : Core) → k ≡ core_of r → l ≡ core_of r → k ≡ l

@@ -38,22 +38,22 @@ module _ (m : Machine) (c : Words) where
     pub performs : (x ≡ Nothing → takes_immediate c.lines ≡ false) → P (performed x)
 
   module _ (P : Turned → Type 0) where
-    accepted-way : (x : Waiting) → Ways x P → P (turn_of (accepted_as x c) m (before m c) c)
-    accepted-way Nothing w = by-test (takes_immediate c.lines) refl
+    accepted_way : (x : Waiting) → Ways x P → P (turn_of (accepted_as x c) m (before m c) c)
+    accepted_way Nothing w = by_test (takes_immediate c.lines) refl
       where
-        by-test : (b : Bool) → takes_immediate c.lines ≡ b → P (turn_of (pick b Wait (perform (named Nothing) 0)) m (before m c) c)
-        by-test true e = w.waits refl e
-        by-test false e = w.performs (λ z. e)
-    accepted-way (Held x) w = w.performs (λ z. absurd (held_something x z))
+        by_test : (b : Bool) → takes_immediate c.lines ≡ b → P (turn_of (pick b Wait (perform (named Nothing) 0)) m (before m c) c)
+        by_test true e = w.waits refl e
+        by_test false e = w.performs (λ z. e)
+    accepted_way (Held x) w = w.performs (λ z. absurd (held_something x z))
 
-    way-from : (x : Waiting) → Ways x P → P (turn_of (judgement_of x c) m (before m c) c)
+    way_from : (x : Waiting) → Ways x P → P (turn_of (judgement_of x c) m (before m c) c)
     unfolding judgement_of
-    way-from x w = by-test (eqb (refusal (checks_of x c)) 0) refl
+    way_from x w = by_test (eqb (refusal (checks_of x c)) 0) refl
       where
-        by-test : (b : Bool) → eqb (refusal (checks_of x c)) 0 ≡ b → P (turn_of (pick b (accepted_as x c) (Refuse (refusal (checks_of x c)))) m (before m c) c)
-        by-test true e = accepted-way x w
-        by-test false e = w.refuses (refusal (checks_of x c)) (eqb-false (refusal (checks_of x c)) 0 e)
+        by_test : (b : Bool) → eqb (refusal (checks_of x c)) 0 ≡ b → P (turn_of (pick b (accepted_as x c) (Refuse (refusal (checks_of x c)))) m (before m c) c)
+        by_test true e = accepted_way x w
+        by_test false e = w.refuses (refusal (checks_of x c)) (eqb-false (refusal (checks_of x c)) 0 e)
 
     pub every_way : Ways m.registers.waiting P → P (cycle_of m c)
     unfolding cycle_of
-    every_way w = way-from m.registers.waiting w
+    every_way w = way_from m.registers.waiting w

@@ -18,7 +18,7 @@ use Rattle.machine.specs.declared.Report.{Report}
 use Rattle.machine.specs.declared.Answer.{Answer}
 use Rattle.machine.specs.declared.Turn.{Turn}
 use Rattle.machine.specs.declared.Effect.{Effect}
-use Rattle.machine.specs.Pins.{oe_yHigh}
+use Rattle.machine.specs.Pins.{oe_y_high}
 use Rattle.machine.specs.Judging.{Judgement, Refuse, Wait, Perform, word_about, operand_about, judgement_of}
 use Rattle.machine.specs.Seeing.{view_of}
 use Rattle.machine.specs.Acting.{status_for, effect_of}
@@ -52,8 +52,8 @@ effect_from p r immediate = effect_of p (view_of p.mode p.register r immediate)
 -- CT judges the status before the cycle, T shows the one after it
 abbrev pub report_of : Named → Effect → ℕ → ℕ → ℕ → Report
 report_of n e ct after pins = record {
-  y = pick (oe_yHigh pins) 0 e.shown;
-  mask = pick (oe_yHigh pins) 0 e.mask;
+  y = pick (oe_y_high pins) 0 e.shown;
+  mask = pick (oe_y_high pins) 0 e.mask;
   ct = ct;
   t = t_of after pins;
   completed = Instruction n;

@@ -15,12 +15,12 @@ abbrev pub dle_high : ℕ → Bool
 dle_high pins = eqb (pins / 4 % 2) 1
 
 -- bit 3: Y is not shown with OE_Y high
-abbrev pub oe_yHigh : ℕ → Bool
-oe_yHigh pins = eqb (pins / 8 % 2) 1
+abbrev pub oe_y_high : ℕ → Bool
+oe_y_high pins = eqb (pins / 8 % 2) 1
 
 -- bit 4: with OE_T high T is driven, and with it low the T inputs choose CT
-abbrev pub oe_tHigh : ℕ → Bool
-oe_tHigh pins = eqb (pins / 16 % 2) 1
+abbrev pub oe_t_high : ℕ → Bool
+oe_t_high pins = eqb (pins / 16 % 2) 1
 
 -- bits 8 to 11: T1 to T4 as inputs, T1 the lowest
 abbrev pub t_inputs : ℕ → ℕ

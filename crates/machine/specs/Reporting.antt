@@ -6,7 +6,7 @@ use Rattle.alu.specs.Width.{bit}
 use Rattle.alu.specs.Flags.{stored_c, stored_n, stored_ovr, stored_link}
 use Rattle.plan.specs.declared.Chooser.{Chooser}
 use Rattle.plan.specs.declared.Chooser.TheVariants.{Pins, Instruction}
-use Rattle.machine.specs.Pins.{ien_high, oe_tHigh, t_inputs}
+use Rattle.machine.specs.Pins.{ien_high, oe_t_high, t_inputs}
 
 -- no CT
 abbrev pub no_ct : ℕ
@@ -32,7 +32,7 @@ condition_of code s = get_or (conditions s) (code % 16) 0
 
 -- the T inputs choose with OE_T low
 abbrev pub ct_by_pins : ℕ → ℕ → ℕ
-ct_by_pins s pins = pick (oe_tHigh pins) no_ct (condition_of (t_inputs pins) s)
+ct_by_pins s pins = pick (oe_t_high pins) no_ct (condition_of (t_inputs pins) s)
 
 -- an instruction chooses with IEN low
 abbrev pub ct_of : Chooser → ℕ → ℕ → ℕ
@@ -40,7 +40,7 @@ ct_of Pins s pins = ct_by_pins s pins
 ct_of (Instruction code) s pins = pick (ien_high pins) (ct_by_pins s pins) (condition_of code s)
 
 abbrev pub t_of : ℕ → ℕ → ℕ
-t_of s pins = pick (oe_tHigh pins) (s % 16) no_t
+t_of s pins = pick (oe_t_high pins) (s % 16) no_t
 
 -- for a law, what a report knows of Y: no bit, those of the low byte or all, and Y has none outside them (document 01, the report)
 pub record KnownBits (y mask : ℕ) : Type 0 where

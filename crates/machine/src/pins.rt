@@ -1,6 +1,6 @@
 // The pins of a cycle, by their levels.
 ghost use Rattle.std.specs.Prelude.{◌≡◌};
-ghost use Rattle.machine.specs.Pins.{ien_high, both_low, dle_high, oe_yHigh, oe_tHigh, t_inputs, stray_pin, bus_clash};
+ghost use Rattle.machine.specs.Pins.{ien_high, both_low, dle_high, oe_y_high, oe_t_high, t_inputs, stray_pin, bus_clash};
 
 pub(crate) fn ien_high(pins: u16) -> bool
     ensures { result ≡ ien_high pins }
@@ -22,13 +22,13 @@ pub(crate) fn dle_high(pins: u16) -> bool
 }
 
 pub(crate) fn oe_y_high(pins: u16) -> bool
-    ensures { result ≡ oe_yHigh pins }
+    ensures { result ≡ oe_y_high pins }
 {
     pins / 8 % 2 == 1
 }
 
 pub(crate) fn oe_t_high(pins: u16) -> bool
-    ensures { result ≡ oe_tHigh pins }
+    ensures { result ≡ oe_t_high pins }
 {
     pins / 16 % 2 == 1
 }

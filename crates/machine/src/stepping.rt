@@ -1,7 +1,7 @@
 // What a judged cycle does, with RAM in place: a refused one nothing; a first immediate cycle waits; an instruction sees, acts and settles.
 ghost use Rattle.std.specs.Prelude.{◌≡◌};
 ghost use Rattle.choice.specs.Pick.{pick};
-ghost use Rattle.machine.specs.Pins.{oe_yHigh};
+ghost use Rattle.machine.specs.Pins.{oe_y_high};
 ghost use Rattle.machine.specs.Stepping.{refused_step, waiting_step, Performed};
 
 use crate::{Core, Stepped, Waiting, Words, acting, conditions, pins, seeing, settling};
@@ -42,7 +42,7 @@ pub(crate) fn waits(named: Named, core: Core, words: Words) -> Stepped
 
 // What Y shows of a word.
 fn on_y(levels: u16, x: u16) -> u16
-    ensures { result ≡ pick (oe_yHigh levels) 0 x }
+    ensures { result ≡ pick (oe_y_high levels) 0 x }
 {
     if pins::oe_y_high(levels) { 0 } else { x }
 }

@@ -41,18 +41,18 @@ abbrev pub cycle_room : ℕ
 cycle_room = words_per_record * most_cycles
 
 module _ (t cycles cycles' : List ℕ) (size : length cycles ≡ cycle_room) where
-  room-is : read_of words_per_record t (length cycles) ≡ reading_of t
-  room-is = ap (read_of words_per_record t) size
+  room_is : read_of words_per_record t (length cycles) ≡ reading_of t
+  room_is = ap (read_of words_per_record t) size
 
-  pub not-read : (k i : ℕ) → Reads t (NotRead k i) cycles cycles' → (text : List ℕ) (refusal : ℕ → ℕ → List ℕ) → if_accepted (reading_of t) text refusal ≡ refusal k i
-  not-read k i r text refusal = ap (λ (a : Placed ℕ). if_accepted a text refusal) (sym room-is ∙ sym r.told)
+  pub not_read : (k i : ℕ) → Reads t (NotRead k i) cycles cycles' → (text : List ℕ) (refusal : ℕ → ℕ → List ℕ) → if_accepted (reading_of t) text refusal ≡ refusal k i
+  not_read k i r text refusal = ap (λ (a : Placed ℕ). if_accepted a text refusal) (sym room_is ∙ sym r.told)
 
   module _ (n : ℕ) (r : Reads t (Read n) cycles cycles') (same : length cycles' ≡ length cycles) where
     pub is_read : (text : List ℕ) (refusal : ℕ → ℕ → List ℕ) → if_accepted (reading_of t) text refusal ≡ text
-    is_read text refusal = ap (λ (a : Placed ℕ). if_accepted a text refusal) (sym room-is ∙ sym r.told)
+    is_read text refusal = ap (λ (a : Placed ℕ). if_accepted a text refusal) (sym room_is ∙ sym r.told)
 
-    pub words-le : n ≤ length cycles
-    words-le = let says = read_says 3 t (length cycles) n (sym r.told) in omega (arith, says.room_enough, says.words)
+    pub words_le : n ≤ length cycles
+    words_le = let says = read_says 3 t (length cycles) n (sym r.told) in omega (arith, says.room_enough, says.words)
 
     filled : cycles' ≡ read_words 3 t ++ drop n cycles
     filled = left_by (read_of 3 t (length cycles)) n (read_words 3 t) cycles cycles' (sym r.told) r.written
@@ -60,10 +60,10 @@ module _ (t cycles cycles' : List ℕ) (size : length cycles ≡ cycle_room) whe
     long : length (read_words 3 t) ≡ n
     long =
         let both : length cycles' ≡ length (read_words 3 t) + length (drop n cycles) = ap length filled ∙ length-append (read_words 3 t) (drop n cycles) in
-        omega (arith, both, same, length-drop n cycles, words-le)
+        omega (arith, both, same, length-drop n cycles, words_le)
 
-    pub words-read : take n cycles' ≡ read_words words_per_record t
-    words-read = ap (take n) filled ∙ take_at (read_words 3 t) (drop n cycles) n long
+    pub words_read : take n cycles' ≡ read_words words_per_record t
+    words_read = ap (take n) filled ∙ take_at (read_words 3 t) (drop n cycles) n long
 
 module _ (words out out' : List ℕ) where
   pub not_written : (k i : ℕ) → Writes words (NotRead k i) out out' → (text : List ℕ) (refusal : ℕ → ℕ → List ℕ) → if_accepted (writing_of words (length out)) text refusal ≡ refusal k i
@@ -73,66 +73,66 @@ module _ (words out out' : List ℕ) where
   kept_out k i w = w.written ∙ ap (λ (a : Placed ℕ). elim a.told.value [ some n ↦ trace_of 3 words ++ drop n out | none ↦ out ]) (sym w.told)
 
   module _ (n : ℕ) (w : Writes words (Read n) out out') where
-    pub is-written : (text : List ℕ) (refusal : ℕ → ℕ → List ℕ) → if_accepted (writing_of words (length out)) text refusal ≡ text
-    is-written text refusal = ap (λ (a : Placed ℕ). if_accepted a text refusal) (sym w.told)
+    pub is_written : (text : List ℕ) (refusal : ℕ → ℕ → List ℕ) → if_accepted (writing_of words (length out)) text refusal ≡ text
+    is_written text refusal = ap (λ (a : Placed ℕ). if_accepted a text refusal) (sym w.told)
 
-    pub trace-long : length (trace_of words_per_record words) ≡ n
-    trace-long = made_trace_long 3 (blocks_for (length words)) 0 words ∙ (write_says 3 (length words) (length out) n (sym w.told)).3
+    pub trace_long : length (trace_of words_per_record words) ≡ n
+    trace_long = made_trace_long 3 (blocks_for (length words)) 0 words ∙ (write_says 3 (length words) (length out) n (sym w.told)).3
 
-    pub trace-out : out' ≡ trace_of words_per_record words ++ drop n out
-    trace-out = left_by (write_of 3 (length words) (length out)) n (trace_of 3 words) out out' (sym w.told) w.written
+    pub trace_out : out' ≡ trace_of words_per_record words ++ drop n out
+    trace_out = left_by (write_of 3 (length words) (length out)) n (trace_of 3 words) out out' (sym w.told) w.written
 
 -- the words found, as many as there are
 module _ (n m : ℕ) (words : List ℕ) (e : n ≡ length (take m words)) where
-  pub found-long : n ≡ length (take n words)
-  found-long = simp length-take (omega (arith, e, length-take m words))
+  pub found_long : n ≡ length (take n words)
+  found_long = simp length-take (omega (arith, e, length-take m words))
 
-  pub found-same : take n words ≡ take m words
-  found-same = by-test (leb m (length words)) refl
+  pub found_same : take n words ≡ take m words
+  found_same = by_test (leb m (length words)) refl
     where
-      by-test : (b : Bool) → leb m (length words) ≡ b → take n words ≡ take m words
-      by-test true q =
+      by_test : (b : Bool) → leb m (length words) ≡ b → take n words ≡ take m words
+      by_test true q =
           let same : n ≡ m = omega (arith, e, length-take m words, leb-true m (length words) q) in
           ap (λ (k : ℕ). take k words) same
-      by-test false q =
+      by_test false q =
           let over : length words ≤ m = omega (arith, leb-false m (length words) q) in
           let whole : length words ≤ n = omega (arith, e, length-take m words, over) in
           take_all n words whole ∙ sym (take_all m words over)
 
 -- a run's answer is the one that its course gives
 ran_told : (r : Ran) → r ≡ ran_of (ran_tells r)
-ran_told r = by-ending r.ending
+ran_told r = by_ending r.ending
   where
-    by-ending : (e : Ending) → record { machine = r.machine; ending = e; accepted = r.accepted; completed = r.completed }
+    by_ending : (e : Ending) → record { machine = r.machine; ending = e; accepted = r.accepted; completed = r.completed }
         ≡ ran_of (ran_tells (record { machine = r.machine; ending = e; accepted = r.accepted; completed = r.completed }))
-    by-ending Done = refl
-    by-ending Stopped = refl
-    by-ending (Refused k i) = refl
+    by_ending Done = refl
+    by_ending Stopped = refl
+    by_ending (Refused k i) = refl
 
 pub few_steps : (words : List ℕ) → length (course_of words).steps ≤ most_cycles
-few_steps words = by-test (eqb (start_refusal zero_machine words (words_per_report * most_cycles)) 0) refl
+few_steps words = by_test (eqb (start_refusal zero_machine words (words_per_report * most_cycles)) 0) refl
   where
-    by-test : (b : Bool) → eqb (start_refusal zero_machine words (words_per_report * most_cycles)) 0 ≡ b → length (course_of words).steps ≤ most_cycles
-    by-test true q =
+    by_test : (b : Bool) → eqb (start_refusal zero_machine words (words_per_report * most_cycles)) 0 ≡ b → length (course_of words).steps ≤ most_cycles
+    by_test true q =
         rw (started zero_machine words full_budget (words_per_report * most_cycles) (eqb-true _ 0 q))
         (steps_le zero_machine full_budget words 0 (cycles_in (length words))).1
-    by-test false q = rw (refused_whole zero_machine words full_budget (words_per_report * most_cycles) q) (omega arith)
+    by_test false q = rw (refused_whole zero_machine words full_budget (words_per_report * most_cycles) q) (omega arith)
 
 module _ (words reports reports' : List ℕ) (r : Ran) (size : length reports ≡ words_per_report * most_cycles) (g : Gives zero_machine (run_of zero_machine words full_budget (length reports)) r reports reports') where
-  course-is : run_of zero_machine words full_budget (length reports) ≡ course_of words
-  course-is = ap (run_of zero_machine words full_budget) size
+  course_is : run_of zero_machine words full_budget (length reports) ≡ course_of words
+  course_is = ap (run_of zero_machine words full_budget) size
 
-  pub ran-is : r ≡ ran_from words
-  ran-is = ran_told r ∙ ap ran_of (g.answer ∙ ap (summary_of zero_machine) course-is)
+  pub ran_is : r ≡ ran_from words
+  ran_is = ran_told r ∙ ap ran_of (g.answer ∙ ap (summary_of zero_machine) course_is)
 
-  pub accepted-le : r.accepted ≤ most_cycles
-  accepted-le = rw ran-is (few_steps words)
+  pub accepted_le : r.accepted ≤ most_cycles
+  accepted_le = rw ran_is (few_steps words)
 
-  pub reports-are : take (words_per_report * r.accepted) reports' ≡ reports_of (course_of words).steps
-  reports-are =
+  pub reports_are : take (words_per_report * r.accepted) reports' ≡ reports_of (course_of words).steps
+  reports_are =
       let all = reports_of (course_of words).steps in
-      let count : length all ≡ words_per_report * r.accepted = reports_length (course_of words).steps ∙ ap (λ (x : Ran). words_per_report * x.accepted) (sym ran-is) in
-      let left : reports' ≡ all ++ drop (length all) reports = g.written ∙ ap (λ (c : Course). reports_of c.steps ++ drop (length (reports_of c.steps)) reports) course-is in
+      let count : length all ≡ words_per_report * r.accepted = reports_length (course_of words).steps ∙ ap (λ (x : Ran). words_per_report * x.accepted) (sym ran_is) in
+      let left : reports' ≡ all ++ drop (length all) reports = g.written ∙ ap (λ (c : Course). reports_of c.steps ++ drop (length (reports_of c.steps)) reports) course_is in
       ap (take (words_per_report * r.accepted)) left ∙ take_at all (drop (length all) reports) (words_per_report * r.accepted) count
 
 -- a refused cycle's words are those of its place

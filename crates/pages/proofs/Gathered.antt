@@ -26,8 +26,8 @@ Says faults i n t =
     ]
 
 module _ (i b : ℕ) (rest : List ℕ) where
-  one-byte-on : (t : Took) → suc i ≤ t.taken.bytes → gathered_after t (suc i) rest ≡ gathered_after t i (b ∷ rest)
-  one-byte-on t h = by-stop t.taken.stop
+  one_byte_on : (t : Took) → suc i ≤ t.taken.bytes → gathered_after t (suc i) rest ≡ gathered_after t i (b ∷ rest)
+  one_byte_on t h = by_stop t.taken.stop
     where
       again : (f : Fault) → fault_then f (gather_from t.taken.reader (drop (t.taken.bytes - suc i) rest) t.words)
           ≡ fault_then f (gather_from t.taken.reader (drop (t.taken.bytes - i) (b ∷ rest)) t.words)
@@ -35,9 +35,9 @@ module _ (i b : ℕ) (rest : List ℕ) where
           let e : t.taken.bytes - i ≡ suc (t.taken.bytes - suc i) = omega arith in
           ap (λ (k : ℕ). fault_then f (gather_from t.taken.reader (drop k (b ∷ rest)) t.words)) (sym e)
 
-      by-stop : (x : Stop) → gathered_after (stops_at t.taken.reader t.taken.bytes x t.words) (suc i) rest ≡ gathered_after (stops_at t.taken.reader t.taken.bytes x t.words) i (b ∷ rest)
-      by-stop Stop.TextEnd = refl
-      by-stop (Stop.Bad f) = again f
+      by_stop : (x : Stop) → gathered_after (stops_at t.taken.reader t.taken.bytes x t.words) (suc i) rest ≡ gathered_after (stops_at t.taken.reader t.taken.bytes x t.words) i (b ∷ rest)
+      by_stop Stop.TextEnd = refl
+      by_stop (Stop.Bad f) = again f
 
 pub gather_take : (i : ℕ) (s : Reader) (text words : List ℕ) → gather_from s text words ≡ gathered_after (take_from i s text words) i text
 unfolding take_from gather_from
@@ -51,9 +51,9 @@ gather_take i s (b ∷ text) words =
     (take_from (suc i) next text words)
     (λ y. take_from (suc i) (with_word next (length words)) text (kept_word s.found y words))
     (λ e. stops_at (with_fault next) (suc i) (Stop.Bad (fault_at s e)) words)
-    (gather_take (suc i) next text words ∙ one-byte-on i b text (take_from (suc i) next text words) (some_bytes (suc i) next text words).0)
+    (gather_take (suc i) next text words ∙ one_byte_on i b text (take_from (suc i) next text words) (some_bytes (suc i) next text words).0)
     (λ y. gather_take (suc i) (with_word next (length words)) text (kept_word s.found y words)
-    ∙ one-byte-on i b text (take_from (suc i) (with_word next (length words)) text (kept_word s.found y words)) (some_bytes (suc i) (with_word next (length words)) text (kept_word s.found y words)).0)
+    ∙ one_byte_on i b text (take_from (suc i) (with_word next (length words)) text (kept_word s.found y words)) (some_bytes (suc i) (with_word next (length words)) text (kept_word s.found y words)).0)
     (λ e. one_byte e)
   where
     one_byte : (e : Expected) → fault_then (fault_at s e) (gather_from (with_fault (passed s (move_at s b) b)) text words)
@@ -65,18 +65,18 @@ gather_take i s (b ∷ text) words =
 -- a byte keeps the faults, with a word or without
 passed_faults : (s : Reader) (b : ℕ) → (passed s (move_at s b) b).faults ≡ s.faults
 unfolding passed
-passed_faults s b = by-test (eqb b line_feed)
+passed_faults s b = by_test (eqb b line_feed)
   where
-    by-test : (t : Bool) → (pick t (next_line s) (next_column s (move_at s b))).faults ≡ s.faults
-    by-test true = refl
-    by-test false = refl
+    by_test : (t : Bool) → (pick t (next_line s) (next_column s (move_at s b))).faults ≡ s.faults
+    by_test true = refl
+    by_test false = refl
 
 says_on : (k l i n : ℕ) (t : Took) → k ≡ l → Says k (suc i) n t → Says l i (suc n) t
-says_on k l i n t e h = by-stop t.taken.stop h
+says_on k l i n t e h = by_stop t.taken.stop h
   where
-    by-stop : (x : Stop) → Says k (suc i) n (stops_at t.taken.reader t.taken.bytes x t.words) → Says l i (suc n) (stops_at t.taken.reader t.taken.bytes x t.words)
-    by-stop Stop.TextEnd p = (p.0 ∙ e, omega (arith, p.1))
-    by-stop (Stop.Bad f) p = p ∙ ap one_more e
+    by_stop : (x : Stop) → Says k (suc i) n (stops_at t.taken.reader t.taken.bytes x t.words) → Says l i (suc n) (stops_at t.taken.reader t.taken.bytes x t.words)
+    by_stop Stop.TextEnd p = (p.0 ∙ e, omega (arith, p.1))
+    by_stop (Stop.Bad f) p = p ∙ ap one_more e
 
 pub take_says : (i : ℕ) (s : Reader) (text words : List ℕ) → Says s.faults i (length text) (take_from i s text words)
 unfolding take_from

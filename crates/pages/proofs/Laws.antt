@@ -1,5 +1,5 @@
 -- What is kept of a long input is answered as all of it would be, and a text may come in pieces.
--- The laws, in this order: `kept-page`, `kept-unpacked`, `gather_pieces`, `named_pieces`.
+-- The laws, in this order: `kept_page`, `kept_unpacked`, `gather_pieces`, `named_pieces`.
 use mathlib.Core.Path.{◌≡◌, refl, sym, ap, ◌∙◌}
 use mathlib.Core.Bool.{Bool, true, false}
 use mathlib.Core.List.{List, [], ◌∷◌, ◌++◌, append_assoc}
@@ -18,8 +18,8 @@ use Rattle.text.proofs.Laws.{met_both}
 use Rattle.trace.specs.Layout.{words_per_record, block_bytes}
 use Rattle.trace.specs.Limits.{too_long, kept_length}
 use Rattle.trace.specs.Reading.{read_words}
-use Rattle.trace.proofs.Answered.{read-11, read-many}
-use Rattle.trace.proofs.Long.{kept-answers}
+use Rattle.trace.proofs.Answered.{read_11, read_many}
+use Rattle.trace.proofs.Long.{kept_answers}
 use Rattle.lines.specs.declared.Program.TheVariants.{RunTrace, UnpackTrace}
 use Rattle.lines.specs.Lines.{refused_line}
 use Rattle.lines.specs.Words.{text_of, fault_line}
@@ -33,30 +33,30 @@ module _ (t : List ℕ) (long : too_long words_per_record ≤ length t) (x y : L
   by_number k i e = ap (λ (a : Placed ℕ). if_accepted a x refusal) (sym e) ∙ ap (λ (a : Placed ℕ). if_accepted a y refusal) e
 
   no_text : if_accepted (reading_of t) x refusal ≡ if_accepted (reading_of t) y refusal
-  no_text = by-test (eqb (length t % block_bytes) 0) refl
+  no_text = by_test (eqb (length t % block_bytes) 0) refl
     where
-      by-test : (b : Bool) → eqb (length t % block_bytes) 0 ≡ b → if_accepted (reading_of t) x refusal ≡ if_accepted (reading_of t) y refusal
-      by-test true q = by_number 2 0 (read-many 3 t (words_per_record * most_cycles) (eqb-true (length t % block_bytes) 0 q) (omega arith))
-      by-test false q = by_number 11 0 (read-11 3 t (words_per_record * most_cycles) (eqb-false (length t % block_bytes) 0 q))
+      by_test : (b : Bool) → eqb (length t % block_bytes) 0 ≡ b → if_accepted (reading_of t) x refusal ≡ if_accepted (reading_of t) y refusal
+      by_test true q = by_number 2 0 (read_many 3 t (words_per_record * most_cycles) (eqb-true (length t % block_bytes) 0 q) (omega arith))
+      by_test false q = by_number 11 0 (read_11 3 t (words_per_record * most_cycles) (eqb-false (length t % block_bytes) 0 q))
 
--- u is what is kept of t (trace, `kept-answers`): all of it, or its kept length of any bytes
+-- u is what is kept of t (trace, `kept_answers`): all of it, or its kept length of any bytes
 module _ (t u : List ℕ) (size : length u ≡ kept_length words_per_record (length t)) (short : length t < too_long words_per_record → u ≡ t) where
-  kept-text : (text : List ℕ → List ℕ) (refusal : ℕ → ℕ → List ℕ) → if_accepted (reading_of u) (text u) refusal ≡ if_accepted (reading_of t) (text t) refusal
-  kept-text text refusal = by-test (ltb (length t) (too_long words_per_record)) refl
+  kept_text : (text : List ℕ → List ℕ) (refusal : ℕ → ℕ → List ℕ) → if_accepted (reading_of u) (text u) refusal ≡ if_accepted (reading_of t) (text t) refusal
+  kept_text text refusal = by_test (ltb (length t) (too_long words_per_record)) refl
     where
-      by-test : (b : Bool) → ltb (length t) (too_long words_per_record) ≡ b → if_accepted (reading_of u) (text u) refusal ≡ if_accepted (reading_of t) (text t) refusal
-      by-test true q = ap (λ (l : List ℕ). if_accepted (reading_of l) (text l) refusal) (short (ltb-true (length t) (too_long words_per_record) q))
-      by-test false q =
-          ap (λ (a : Placed ℕ). if_accepted a (text u) refusal) (kept-answers 3 t u (words_per_record * most_cycles) size short)
+      by_test : (b : Bool) → ltb (length t) (too_long words_per_record) ≡ b → if_accepted (reading_of u) (text u) refusal ≡ if_accepted (reading_of t) (text t) refusal
+      by_test true q = ap (λ (l : List ℕ). if_accepted (reading_of l) (text l) refusal) (short (ltb-true (length t) (too_long words_per_record) q))
+      by_test false q =
+          ap (λ (a : Placed ℕ). if_accepted a (text u) refusal) (kept_answers 3 t u (words_per_record * most_cycles) size short)
           ∙ no_text t (ltb-false (length t) (too_long words_per_record) q) (text u) (text t) refusal
 
-  pub kept-page : (page_text u ≡ page_text t) × (page_said u ≡ page_said t)
+  pub kept_page : (page_text u ≡ page_text t) × (page_said u ≡ page_said t)
   unfolding page_text page_said
-  kept-page = (kept-text (λ (l : List ℕ). run_text (read_words words_per_record l)) refused_line, kept-text (λ (l : List ℕ). run_said (read_words words_per_record l)) (refusal_said RunTrace))
+  kept_page = (kept_text (λ (l : List ℕ). run_text (read_words words_per_record l)) refused_line, kept_text (λ (l : List ℕ). run_said (read_words words_per_record l)) (refusal_said RunTrace))
 
-  pub kept-unpacked : (unpacked_text u ≡ unpacked_text t) × (unpacked_said u ≡ unpacked_said t)
+  pub kept_unpacked : (unpacked_text u ≡ unpacked_text t) × (unpacked_said u ≡ unpacked_said t)
   unfolding unpacked_text unpacked_said
-  kept-unpacked = (kept-text (λ (l : List ℕ). text_of (read_words words_per_record l)) (λ (number index : ℕ). []), kept-text (λ (l : List ℕ). []) (refusal_said UnpackTrace))
+  kept_unpacked = (kept_text (λ (l : List ℕ). text_of (read_words words_per_record l)) (λ (number index : ℕ). []), kept_text (λ (l : List ℕ). []) (refusal_said UnpackTrace))
 
 pub gather_pieces : (s : Reader) (text more words : List ℕ) → gather_from s (text ++ more) words ≡ gather_on (gather_from s text words) more
 unfolding gather_from

@@ -128,8 +128,8 @@ text_fits words h =
 
 -- what `runtrace` writes and says of any trace, and what `unpacktrace` says
 module _ (answer : Placed ℕ) (text : List ℕ) (refusal : ℕ → ℕ → List ℕ) (b : ℕ) (p : length text ≤ b) (q : (k i : ℕ) → length (refusal k i) ≤ b) where
-  either-fits : length (if_accepted answer text refusal) ≤ b
-  either-fits = by_value answer.told.value
+  either_fits : length (if_accepted answer text refusal) ≤ b
+  either_fits = by_value answer.told.value
     where
       by_value : (v : Option ℕ) → length (if_accepted (record { told = record { number = answer.told.number; value = v }; index = answer.index }) text refusal) ≤ b
       by_value (some n) = p
@@ -142,7 +142,7 @@ run_text_fits words = page_fits (ran_from words) (reports_of (course_of words).s
 pub page_text_fits : (t : List ℕ) → length (page_text t) ≤ page_bytes
 unfolding page_text
 page_text_fits t =
-    either-fits (reading_of t) (run_text (read_words words_per_record t)) refused_line page_bytes (run_text_fits (read_words words_per_record t)) (λ k i. omega (arith, refused_line_le k i))
+    either_fits (reading_of t) (run_text (read_words words_per_record t)) refused_line page_bytes (run_text_fits (read_words words_per_record t)) (λ k i. omega (arith, refused_line_le k i))
 
 refusal_said_fits : (program : Program) (k i : ℕ) → length (refusal_said program k i) ≤ remark_bytes
 refusal_said_fits program k i = remark_line_le program (Refusal k i 0 0)
@@ -162,33 +162,33 @@ run_said_fits words = end_said_fits words (ran_from words).ending (ran_from word
 
 pub page_said_fits : (t : List ℕ) → length (page_said t) ≤ remark_bytes
 unfolding page_said
-page_said_fits t = either-fits (reading_of t) (run_said (read_words words_per_record t)) (refusal_said RunTrace) remark_bytes (run_said_fits (read_words words_per_record t)) (refusal_said_fits RunTrace)
+page_said_fits t = either_fits (reading_of t) (run_said (read_words words_per_record t)) (refusal_said RunTrace) remark_bytes (run_said_fits (read_words words_per_record t)) (refusal_said_fits RunTrace)
 
 pub unpacked_said_fits : (t : List ℕ) → length (unpacked_said t) ≤ remark_bytes
 unfolding unpacked_said
-unpacked_said_fits t = either-fits (reading_of t) [] (refusal_said UnpackTrace) remark_bytes (omega arith) (refusal_said_fits UnpackTrace)
+unpacked_said_fits t = either_fits (reading_of t) [] (refusal_said UnpackTrace) remark_bytes (omega arith) (refusal_said_fits UnpackTrace)
 
 -- what `packtrace` says of a piece, and at the end of a text
 pub one_more_up : (k : ℕ) → k < most_named → one_more k ≡ k + 1
 one_more_up k l = picked (ltb k most_counted) (k + 1) k (lt-ltb k most_counted (omega arith))
 
 pub one_more_no_less : (k : ℕ) → k ≤ one_more k
-one_more_no_less k = by-test (ltb k most_counted)
+one_more_no_less k = by_test (ltb k most_counted)
   where
-    by-test : (b : Bool) → k ≤ pick b (k + 1) k
-    by-test true = omega arith
-    by-test false = omega arith
+    by_test : (b : Bool) → k ≤ pick b (k + 1) k
+    by_test true = omega arith
+    by_test false = omega arith
 
 named_fits : (k : ℕ) (faults : List Fault) → length (named_from k faults) ≤ fault_bytes * (most_named - k)
 named_fits k [] = omega arith
-named_fits k (f ∷ faults) = by-test (ltb k most_named) refl (named_fits (one_more k) faults)
+named_fits k (f ∷ faults) = by_test (ltb k most_named) refl (named_fits (one_more k) faults)
   where
-    by-test : (b : Bool) → ltb k most_named ≡ b → length (named_from (one_more k) faults) ≤ fault_bytes * (most_named - one_more k)
+    by_test : (b : Bool) → ltb k most_named ≡ b → length (named_from (one_more k) faults) ≤ fault_bytes * (most_named - one_more k)
         → length (pick b (fault_line f) [] ++ named_from (one_more k) faults) ≤ fault_bytes * (most_named - k)
-    by-test true q more =
+    by_test true q more =
         let l : k < most_named = ltb-true k most_named q in
         rw (length-append (fault_line f) (named_from (one_more k) faults)) (omega (arith, more, fault_line_le f, one_more_up k l, l))
-    by-test false q more = omega (arith, more, one_more_no_less k, ltb-false k most_named q)
+    by_test false q more = omega (arith, more, one_more_no_less k, ltb-false k most_named q)
 
 mark_said_fits : (s : Reader) (text : List ℕ) → length (mark_said s text) ≤ remark_bytes
 mark_said_fits s text = by_tests (at_start s) (is_mark (get_or text 0 0) (get_or text 1 0) (get_or text 2 0))
@@ -208,11 +208,11 @@ piece_said_fits s text words =
     (omega (arith, mark_said_fits s text, named_fits s.faults (gather_from s text words).faults))
 
 unnamed_said_fits : (k : ℕ) → length (unnamed_said k) ≤ remark_bytes
-unnamed_said_fits k = by-test (ltb most_named k)
+unnamed_said_fits k = by_test (ltb most_named k)
   where
-    by-test : (b : Bool) → length (pick b (remark_line PackTrace (Unnamed (k - most_named))) []) ≤ remark_bytes
-    by-test true = remark_line_le PackTrace (Unnamed (k - most_named))
-    by-test false = omega arith
+    by_test : (b : Bool) → length (pick b (remark_line PackTrace (Unnamed (k - most_named))) []) ≤ remark_bytes
+    by_test true = remark_line_le PackTrace (Unnamed (k - most_named))
+    by_test false = omega arith
 
 sound_fits : (b : Bool) (text : List ℕ) (n : ℕ) → length text ≤ n → length (pick b text []) ≤ n
 sound_fits true text n h = h
@@ -222,6 +222,6 @@ pub packed_said_fits : (s : Reader) (g : Gathered) (room : ℕ) → length (pack
 unfolding packed_said
 packed_said_fits s g room =
     let written = written_said (found_words g) room in
-    let short : length written ≤ remark_bytes = either-fits (writing_of (found_words g) room) [] (refusal_said PackTrace) remark_bytes (omega arith) (refusal_said_fits PackTrace) in
+    let short : length written ≤ remark_bytes = either_fits (writing_of (found_words g) room) [] (refusal_said PackTrace) remark_bytes (omega arith) (refusal_said_fits PackTrace) in
     rw (length-append (named_from s.faults g.faults) (unnamed_said g.reader.faults ++ if_sound g written), length-append (unnamed_said g.reader.faults) (if_sound g written))
     (omega (arith, named_fits s.faults g.faults, unnamed_said_fits g.reader.faults, sound_fits (eqb g.reader.faults 0) written remark_bytes short))

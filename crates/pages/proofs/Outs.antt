@@ -42,7 +42,7 @@ use Rattle.pages.specs.Running.{course_of, ran_from, refusal_said, end_said, run
 use Rattle.pages.specs.Unpacking.{unpacked_text, unpacked_said}
 use Rattle.pages.specs.Packing.{Gathered, named_from, is_mark, mark_said, ended_from, found_words, written_text, written_said, packed_text, unnamed_said, packed_said}
 use Rattle.pages.specs.Naming.{remark_bytes, Packs}
-use Rattle.pages.proofs.Answers.{cycle_room, not-read, is_read, words-le, words-read, not_written, kept_out, is-written, trace-long, trace-out, found-same, ran-is, reports-are}
+use Rattle.pages.proofs.Answers.{cycle_room, not_read, is_read, words_le, words_read, not_written, kept_out, is_written, trace_long, trace_out, found_same, ran_is, reports_are}
 use Rattle.pages.proofs.Together.{changed, made_at, made_bytes}
 
 -- text made at the start of a slice that has room for it
@@ -59,18 +59,18 @@ made_first text r before after m h =
 -- a byte order mark, at the start of a text
 module _ (s : Reader) (text : List ℕ) (x y z : ℕ) (b : Bool) (first : x ≡ get_or text 0 0) (second : y ≡ get_or text 1 0) (third : z ≡ get_or text 2 0)
     (judged : b ≡ is_mark x y z) (line : s.line ≡ 1) (column : s.column ≡ 1) where
-  mark-is : mark_said s text ≡ pick b (remark_line PackTrace Marked) []
-  mark-is = rw (eq-eqb s.line 1 line, eq-eqb s.column 1 column, ← first, ← second, ← third, ← judged)
+  mark_is : mark_said s text ≡ pick b (remark_line PackTrace Marked) []
+  mark_is = rw (eq-eqb s.line 1 line, eq-eqb s.column 1 column, ← first, ← second, ← third, ← judged)
 
   pub unmarked : b ≡ false → (said : List ℕ) → Puts (mark_said s text) 0 0 said said
-  unmarked e said = subst (λ (l : List ℕ). Puts l 0 0 said said) (sym (mark-is ∙ ap (λ (c : Bool). pick c (remark_line PackTrace Marked) []) e)) (puts_nothing 0 said)
+  unmarked e said = subst (λ (l : List ℕ). Puts l 0 0 said said) (sym (mark_is ∙ ap (λ (c : Bool). pick c (remark_line PackTrace Marked) []) e)) (puts_nothing 0 said)
 
   pub marked : b ≡ true → (r : Line) (said said' : List ℕ) → Makes (remark_line PackTrace Marked) r said said' → remark_bytes ≤ length said
       → Puts (mark_said s text) 0 (bytes_in r) said said' × (bytes_in r ≤ remark_bytes)
   marked e r said said' m h =
       let short = remark_line_le PackTrace Marked in
       let fits = made_fits (remark_line PackTrace Marked) r said said' m (omega (arith, short, h)) in
-      (subst (λ (l : List ℕ). Puts l 0 (bytes_in r) said said') (sym (mark-is ∙ ap (λ (c : Bool). pick c (remark_line PackTrace Marked) []) e)) (made_first (remark_line PackTrace Marked) r said said' m (omega (arith, short, h))), omega (arith, ap bytes_in fits.0, short))
+      (subst (λ (l : List ℕ). Puts l 0 (bytes_in r) said said') (sym (mark_is ∙ ap (λ (c : Bool). pick c (remark_line PackTrace Marked) []) e)) (made_first (remark_line PackTrace Marked) r said said' m (omega (arith, short, h))), omega (arith, ap bytes_in fits.0, short))
 
 -- what is said of a refusal, where there is room for it
 pub refusal_room : (k i : ℕ) (r : Line) (said part : List ℕ) (at : ℕ) → Makes (refusal_said PackTrace k i) r (take (length said - at) (drop at said)) part → at + remark_bytes ≤ length said → at + bytes_in r ≤ length said
@@ -81,11 +81,11 @@ refusal_room k i r said part at m h =
 -- the writer's answer
 module _ (n m : ℕ) (words out out' said : List ℕ) (at : ℕ) (found : n ≡ length (take m words)) (room : at + remark_bytes ≤ length said) where
   same : take n words ≡ take m words
-  same = found-same n m words found
+  same = found_same n m words found
 
-  pub refused-packs : (answer : Filled) (k i : ℕ) → answer ≡ Refused k i → (r : Line) (part : List ℕ) → WritesTrace (take n words) answer out out' → Makes (refusal_said PackTrace k i) r (take (length said - at) (drop at said)) part
+  pub refused_packs : (answer : Filled) (k i : ℕ) → answer ≡ Refused k i → (r : Line) (part : List ℕ) → WritesTrace (take n words) answer out out' → Makes (refusal_said PackTrace k i) r (take (length said - at) (drop at said)) part
       → Packs (take m words) at (record { bytes = 0; at = at + bytes_in r }) out said out' (changed said at part)
-  refused-packs answer k i e r part writes told = subst (λ (l : List ℕ). Packs l at (record { bytes = 0; at = at + bytes_in r }) out said out' (changed said at part)) same packs
+  refused_packs answer k i e r part writes told = subst (λ (l : List ℕ). Packs l at (record { bytes = 0; at = at + bytes_in r }) out said out' (changed said at part)) same packs
     where
       w : WritesTrace (take n words) (Refused k i) out out'
       w = subst (λ (x : Filled). WritesTrace (take n words) x out out') e writes
@@ -106,24 +106,24 @@ module _ (n m : ℕ) (words out out' said : List ℕ) (at : ℕ) (found : n ≡ 
         few = omega (arith, made_bytes (refusal_said PackTrace k i) r said part at (omega arith) told (omega (arith, short, room)), short);
       }
 
-  pub accepted-packs : (answer : Filled) (y : ℕ) → answer ≡ Accepted y → WritesTrace (take n words) answer out out' → Packs (take m words) at (record { bytes = y; at = at }) out said out' said
-  accepted-packs answer y e writes = subst (λ (l : List ℕ). Packs l at (record { bytes = y; at = at }) out said out' said) same packs
+  pub accepted_packs : (answer : Filled) (y : ℕ) → answer ≡ Accepted y → WritesTrace (take n words) answer out out' → Packs (take m words) at (record { bytes = y; at = at }) out said out' said
+  accepted_packs answer y e writes = subst (λ (l : List ℕ). Packs l at (record { bytes = y; at = at }) out said out' said) same packs
     where
       w : WritesTrace (take n words) (Accepted y) out out'
       w = subst (λ (x : Filled). WritesTrace (take n words) x out out') e writes
 
       text : written_text (take n words) (length out) ≡ trace_of words_per_record (take n words)
-      text = is-written (take n words) out out' y w (trace_of words_per_record (take n words)) (λ (number index : ℕ). [])
+      text = is_written (take n words) out out' y w (trace_of words_per_record (take n words)) (λ (number index : ℕ). [])
 
       long : length (written_text (take n words) (length out)) ≡ y
-      long = ap length text ∙ trace-long (take n words) out out' y w
+      long = ap length text ∙ trace_long (take n words) out out' y w
 
       packs : Packs (take n words) at (record { bytes = y; at = at }) out said out' said
       packs = record {
         bytes = sym long;
-        blocks = trace-out (take n words) out out' y w ∙ ap (λ (l : List ℕ). l ++ drop y out) (sym text) ∙ ap (λ (k : ℕ). written_text (take n words) (length out) ++ drop k out) (sym long);
+        blocks = trace_out (take n words) out out' y w ∙ ap (λ (l : List ℕ). l ++ drop y out) (sym text) ∙ ap (λ (k : ℕ). written_text (take n words) (length out) ++ drop k out) (sym long);
         fits = let says = write_says 3 (length (take n words)) (length out) y (sym w.told) in omega (arith, says.2, says.3, long);
-        told = subst (λ (l : List ℕ). Puts l at at said said) (sym (is-written (take n words) out out' y w [] (refusal_said PackTrace))) (puts_nothing at said);
+        told = subst (λ (l : List ℕ). Puts l at at said said) (sym (is_written (take n words) out out' y w [] (refusal_said PackTrace))) (puts_nothing at said);
         few = omega arith;
       }
 
@@ -136,20 +136,20 @@ module _ (s r : Reader) (words words' out errors errors' start first second : Li
   both : Puts (named_from s.faults g.faults ++ unnamed_said g.reader.faults) 0 b start second
   both = puts_both named (subst (λ (x : Reader). Puts (unnamed_said x.faults) a b first second) next unnamed)
 
-  pub faulty-ends : (r.faults ≡ 0 → ⊥) → Makes (take b second) line errors errors'
+  pub faulty_ends : (r.faults ≡ 0 → ⊥) → Makes (take b second) line errors errors'
       → Writes (packed_text g (length out)) (packed_said s g (length out)) (record { output = Made 0; said = line }) out errors out errors'
   unfolding packed_text packed_said
-  faulty-ends n m =
+  faulty_ends n m =
       let bad : eqb g.reader.faults 0 ≡ false = subst (λ (x : Reader). eqb x.faults 0 ≡ false) next (ne_eqb r.faults 0 n) in
       record {
         shown = makes_as (sym (ap (λ (c : Bool). pick c (written_text (found_words g) (length out)) []) bad)) (nothing_made out);
         told = makes_as (ap (λ (l : List ℕ). named_from s.faults g.faults ++ l) (sym (append-nil (unnamed_said g.reader.faults)) ∙ ap (λ (c : Bool). unnamed_said g.reader.faults ++ pick c (written_said (found_words g) (length out)) []) (sym bad))) (line_made both m);
       }
 
-  pub sound-ends : (e : r.faults ≡ 0) (blocks : Blocks) (out' third : List ℕ) → Packs (take r.found words') b blocks out second out' third → Makes (take blocks.at third) line errors errors'
+  pub sound_ends : (e : r.faults ≡ 0) (blocks : Blocks) (out' third : List ℕ) → Packs (take r.found words') b blocks out second out' third → Makes (take blocks.at third) line errors errors'
       → Writes (packed_text g (length out)) (packed_said s g (length out)) (record { output = Made blocks.bytes; said = line }) out errors out' errors'
   unfolding packed_text packed_said
-  sound-ends e blocks out' third p m =
+  sound_ends e blocks out' third p m =
       let good : eqb g.reader.faults 0 ≡ true = subst (λ (x : Reader). eqb x.faults 0 ≡ true) next (eq-eqb r.faults 0 e) in
       let found : take r.found words' ≡ found_words g = ap (λ (x : Reader). take x.found words') next ∙ ap (take g.reader.found) kept in
       let packs : Packs (found_words g) b blocks out second out' third = subst (λ (l : List ℕ). Packs l b blocks out second out' third) found p in
@@ -165,24 +165,24 @@ module _ (t cycles cycles' : List ℕ) (answer : Filled) (reads_all : Reads t an
   read_as : (x : Filled) → answer ≡ x → Reads t x cycles cycles'
   read_as x e = subst (λ (f : Filled). Reads t f cycles cycles') e reads_all
 
-  pub read-le : (n : ℕ) → answer ≡ Accepted n → length cycles' ≡ length cycles → n ≤ length cycles
-  read-le n e same_size = words-le t cycles cycles' size n (read_as (Accepted n) e) same_size
+  pub read_le : (n : ℕ) → answer ≡ Accepted n → length cycles' ≡ length cycles → n ≤ length cycles
+  read_le n e same_size = words_le t cycles cycles' size n (read_as (Accepted n) e) same_size
 
   module _ (out errors out' errors' : List ℕ) (r : Written) where
-    pub page-refused : (k i : ℕ) → answer ≡ Refused k i → Makes (refused_line k i) r.output out out' → Makes (refusal_said RunTrace k i) r.said errors errors'
+    pub page_refused : (k i : ℕ) → answer ≡ Refused k i → Makes (refused_line k i) r.output out out' → Makes (refusal_said RunTrace k i) r.said errors errors'
         → Writes (page_text t) (page_said t) r out errors out' errors'
     unfolding page_text page_said
-    page-refused k i e shown told = let reads = read_as (Refused k i) e in record {
-      shown = makes_as (sym (not-read t cycles cycles' size k i reads (run_text (read_words words_per_record t)) refused_line)) shown;
-      told = makes_as (sym (not-read t cycles cycles' size k i reads (run_said (read_words words_per_record t)) (refusal_said RunTrace))) told;
+    page_refused k i e shown told = let reads = read_as (Refused k i) e in record {
+      shown = makes_as (sym (not_read t cycles cycles' size k i reads (run_text (read_words words_per_record t)) refused_line)) shown;
+      told = makes_as (sym (not_read t cycles cycles' size k i reads (run_said (read_words words_per_record t)) (refusal_said RunTrace))) told;
     }
 
-    pub unpacked-refused : (k i : ℕ) → answer ≡ Refused k i → Makes [] r.output out out' → Makes (refusal_said UnpackTrace k i) r.said errors errors'
+    pub unpacked_refused : (k i : ℕ) → answer ≡ Refused k i → Makes [] r.output out out' → Makes (refusal_said UnpackTrace k i) r.said errors errors'
         → Writes (unpacked_text t) (unpacked_said t) r out errors out' errors'
     unfolding unpacked_text unpacked_said
-    unpacked-refused k i e shown told = let reads = read_as (Refused k i) e in record {
-      shown = makes_as (sym (not-read t cycles cycles' size k i reads (text_of (read_words words_per_record t)) (λ (number index : ℕ). []))) shown;
-      told = makes_as (sym (not-read t cycles cycles' size k i reads [] (refusal_said UnpackTrace))) told;
+    unpacked_refused k i e shown told = let reads = read_as (Refused k i) e in record {
+      shown = makes_as (sym (not_read t cycles cycles' size k i reads (text_of (read_words words_per_record t)) (λ (number index : ℕ). []))) shown;
+      told = makes_as (sym (not_read t cycles cycles' size k i reads [] (refusal_said UnpackTrace))) told;
     }
 
     module _ (n : ℕ) (e : answer ≡ Accepted n) (same_size : length cycles' ≡ length cycles) where
@@ -190,7 +190,7 @@ module _ (t cycles cycles' : List ℕ) (answer : Filled) (reads_all : Reads t an
       reads = read_as (Accepted n) e
 
       words_are : take n cycles' ≡ read_words words_per_record t
-      words_are = words-read t cycles cycles' size n reads same_size
+      words_are = words_read t cycles cycles' size n reads same_size
 
       pub page-read : Writes (run_text (take n cycles')) (run_said (take n cycles')) r out errors out' errors' → Writes (page_text t) (page_said t) r out errors out' errors'
       unfolding page_text page_said
@@ -214,9 +214,9 @@ pub run_shown : (words reports reports' : List ℕ) (ran : Ran) → length repor
     → Writes (run_text words) (run_said words) r out errors out' errors'
 unfolding run_text run_said
 run_shown words reports reports' ran size g n start page p r out errors out' errors' shown told =
-    let same = ran-is words reports reports' ran size g in
+    let same = ran_is words reports reports' ran size g in
     let lines : joined (page_of ran (take (words_per_report * ran.accepted) reports')) ≡ joined (page_of (ran_from words) (reports_of (course_of words).steps)) =
-    ap (λ (l : List ℕ). joined (page_of ran l)) (reports-are words reports reports' ran size g) ∙ ap (λ (x : Ran). joined (page_of x (reports_of (course_of words).steps))) same in
+    ap (λ (l : List ℕ). joined (page_of ran l)) (reports_are words reports reports' ran size g) ∙ ap (λ (x : Ran). joined (page_of x (reports_of (course_of words).steps))) same in
     record {
       shown = makes_as lines (line_made p shown);
       told = makes_as (ap (λ (x : Ran). end_said words x.ending x.machine.registers.waiting) same) told;

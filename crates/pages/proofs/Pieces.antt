@@ -27,13 +27,13 @@ use Rattle.pages.proofs.Gathered.{Says, gather_take, take_says}
 -- how far what is said goes, with one fault more
 one_fault_more : (at end end' k : ℕ) (f : Fault) → end ≤ at + fault_bytes * k → end ≤ at + named_bytes → end' ≡ end + length (pick (ltb k most_named) (fault_line f) [])
     → (end' ≤ at + fault_bytes * one_more k) × (end' ≤ at + named_bytes)
-one_fault_more at end end' k f h g e = by-test (ltb k most_named) refl e
+one_fault_more at end end' k f h g e = by_test (ltb k most_named) refl e
   where
-    by-test : (b : Bool) → ltb k most_named ≡ b → end' ≡ end + length (pick b (fault_line f) []) → (end' ≤ at + fault_bytes * one_more k) × (end' ≤ at + named_bytes)
-    by-test true q x =
+    by_test : (b : Bool) → ltb k most_named ≡ b → end' ≡ end + length (pick b (fault_line f) []) → (end' ≤ at + fault_bytes * one_more k) × (end' ≤ at + named_bytes)
+    by_test true q x =
         let l : k < most_named = ltb-true k most_named q in
         (rw (one_more_up k l) (omega (arith, fault_line_le f, x, h)), omega (arith, fault_line_le f, x, h, l))
-    by-test false q x = (omega (arith, x, h, one_more_no_less k), omega (arith, x, g))
+    by_test false q x = (omega (arith, x, h, one_more_no_less k), omega (arith, x, g))
 
 module _ (start : Reader) (piece words₀ said₀ : List ℕ) (at : ℕ) where
   abbrev all : Gathered
@@ -42,11 +42,11 @@ module _ (start : Reader) (piece words₀ said₀ : List ℕ) (at : ℕ) where
   -- the words and what is said so far, the reader, the end of what is said, and how many bytes were taken
   pub record Taking (words said : List ℕ) (state : Reader) (end from : ℕ) : Type 0 where
     pub within : from ≤ length piece
-    pub same-words : length words ≡ length words₀
-    pub same-said : length said ≡ length said₀
+    pub same_words : length words ≡ length words₀
+    pub same_said : length said ≡ length said₀
     pub past : List ℕ
     pub put : Puts past at end said₀ said
-    pub by-faults : end ≤ at + fault_bytes * state.faults
+    pub by_faults : end ≤ at + fault_bytes * state.faults
     pub by_most : end ≤ at + named_bytes
     pub reader : (gather_from state (drop from piece) words).reader ≡ all.reader
     pub kept : (gather_from state (drop from piece) words).words ≡ all.words
@@ -55,11 +55,11 @@ module _ (start : Reader) (piece words₀ said₀ : List ℕ) (at : ℕ) where
   pub begins : Taking words₀ said₀ start at 0
   begins = record {
     within = omega arith;
-    same-words = refl;
-    same-said = refl;
+    same_words = refl;
+    same_said = refl;
     past = [];
     put = record { end = sym (add-zero at); put = sym (append-nil (take at said₀)); rest = refl };
-    by-faults = omega arith;
+    by_faults = omega arith;
     by_most = omega arith;
     reader = refl;
     kept = refl;
@@ -106,15 +106,15 @@ module _ (start : Reader) (piece words₀ said₀ : List ℕ) (at : ℕ) where
       says : Says state.faults 0 (length (drop from piece)) made
       says = subst (Says state.faults 0 (length (drop from piece))) (sym made-is) (take_says 0 state (drop from piece) words)
 
-      by-stop : (x : Stop) → r.stop ≡ x → made ≡ record { taken = record { reader = r.reader; bytes = r.bytes; stop = x }; words = words' }
+      by_stop : (x : Stop) → r.stop ≡ x → made ≡ record { taken = record { reader = r.reader; bytes = r.bytes; stop = x }; words = words' }
       unfolding made
-      by-stop x e = ap (λ (s : Stop). record { taken = record { reader = r.reader; bytes = r.bytes; stop = s }; words = words' }) e
+      by_stop x e = ap (λ (s : Stop). record { taken = record { reader = r.reader; bytes = r.bytes; stop = s }; words = words' }) e
 
       -- the piece is at its end
       pub at-end : r.stop ≡ Stop.TextEnd → Taking words' said r.reader end (from + r.bytes)
       unfolding gather_from
       at-end e =
-          let ended = by-stop Stop.TextEnd e in
+          let ended = by_stop Stop.TextEnd e in
           let s = subst (Says state.faults 0 (length (drop from piece))) ended says in
           let rest : gather_from state (drop from piece) words ≡ record { reader = r.reader; words = words'; faults = [] } = goes ∙ ap (λ (x : Took). gathered_after x 0 (drop from piece)) ended in
           let over : length piece ≤ from + r.bytes = omega (arith, s.1, length-drop from piece, t.within) in
@@ -123,11 +123,11 @@ module _ (start : Reader) (piece words₀ said₀ : List ℕ) (at : ℕ) where
           ap (λ (l : List ℕ). gather_from r.reader l words') none ∙ sym rest in
           record {
             within = more;
-            same-words = same ∙ t.same-words;
-            same-said = t.same-said;
+            same_words = same ∙ t.same_words;
+            same_said = t.same_said;
             past = t.past;
             put = t.put;
-            by-faults = rw s.0 t.by-faults;
+            by_faults = rw s.0 t.by_faults;
             by_most = t.by_most;
             reader = ap (λ (g : Gathered). g.reader) now ∙ t.reader;
             kept = ap (λ (g : Gathered). g.words) now ∙ t.kept;
@@ -140,22 +140,22 @@ module _ (start : Reader) (piece words₀ said₀ : List ℕ) (at : ℕ) where
       pub after-fault : (f : Fault) → r.stop ≡ Stop.Bad f → (end' : ℕ) (said' : List ℕ) → Puts (pick (ltb state.faults most_named) (fault_line f) []) end end' said said'
           → length said' ≡ length said → Taking words' said' r.reader end' (from + r.bytes)
       after-fault f e end' said' p long =
-          let bad = by-stop (Stop.Bad f) e in
+          let bad = by_stop (Stop.Bad f) e in
           let counted : r.reader.faults ≡ one_more state.faults = subst (Says state.faults 0 (length (drop from piece))) bad says in
           let onward : drop (r.bytes - 0) (drop from piece) ≡ drop (from + r.bytes) piece =
           ap (λ (k : ℕ). drop k (drop from piece)) (sub-zero r.bytes) ∙ drop-drop r.bytes from piece in
           let rest : gather_from state (drop from piece) words ≡ fault_then f (gather_from r.reader (drop (from + r.bytes) piece) words') =
           goes ∙ ap (λ (x : Took). gathered_after x 0 (drop from piece)) bad ∙ ap (λ (l : List ℕ). fault_then f (gather_from r.reader l words')) onward in
           let here = pick (ltb state.faults most_named) (fault_line f) [] in
-          let bound = one_fault_more at end end' state.faults f t.by-faults t.by_most p.end in
+          let bound = one_fault_more at end end' state.faults f t.by_faults t.by_most p.end in
           let later = gather_from r.reader (drop (from + r.bytes) piece) words' in
           record {
             within = more;
-            same-words = same ∙ t.same-words;
-            same-said = long ∙ t.same-said;
+            same_words = same ∙ t.same_words;
+            same_said = long ∙ t.same_said;
             past = t.past ++ here;
             put = puts_both t.put p;
-            by-faults = rw counted bound.0;
+            by_faults = rw counted bound.0;
             by_most = bound.1;
             reader = ap (λ (g : Gathered). g.reader) (sym rest) ∙ t.reader;
             kept = ap (λ (g : Gathered). g.words) (sym rest) ∙ t.kept;

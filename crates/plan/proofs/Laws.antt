@@ -1,6 +1,6 @@
 -- What holds of the plans of all instructions of the list: one test over the fields of each family, and what it says.
--- The laws, in this order: `immediate-agrees`, `ram-agrees`, `acc-agrees`, `bit-agrees`, `merge-goes-back`, `merge-from`, `bit-from`,
--- `word-immediate`, `word-mode`, `plan_for_unique`, `names_immediate_unique`.
+-- The laws, in this order: `immediate_agrees`, `ram_agrees`, `acc_agrees`, `bit_agrees`, `merge_goes_back`, `merge_from`, `bit_from`,
+-- `word_immediate`, `word_mode`, `plan_for_unique`, `names_immediate_unique`.
 use Prim.{Unit}
 use mathlib.Core.Path.{◌≡◌, ◌∙◌, sym, ap}
 use mathlib.Core.Bool.{Bool, true, false}
@@ -20,7 +20,7 @@ use Rattle.isa.specs.Fields.{mode_of, mark_of, mark_for}
 use Rattle.isa.specs.Sets.{has}
 use Rattle.isa.specs.Table.{row_at, number_of, bit_in_mode}
 use Rattle.isa.specs.Words.{named_row, acc_twice, asks_i, names_i as wordNamesI, decode_of, takes_immediate, Listed}
-use Rattle.isa.proofs.Laws.{encode-decode, encode-takes, decode-named}
+use Rattle.isa.proofs.Laws.{encode_decode, encode_takes, decode_named}
 use Rattle.isa.proofs.Families.{own_row, narrow}
 use Rattle.isa.proofs.Takes.{Taken, taken, small}
 use Rattle.plan.specs.declared.Task.{Task}
@@ -152,9 +152,9 @@ module _ (n : Named) (listed : Listed n) where
   in_range = small row (mark_for n.mode) n.a n.b n.c (narrow (number_of n.family) (own_row n.family).0) listed
 
   -- its fields are in their range, so the plan's n is A, and its work that of the fields as they are
-  pub plan-n : (plan_of n).n ≡ n.a
+  pub plan_n : (plan_of n).n ≡ n.a
   unfolding plan_of
-  plan-n = mod-eq_of_lt in_range.0
+  plan_n = mod-eq_of_lt in_range.0
 
   whole_fields : (plan_of n).work ≡ work_of n.family n.a n.b n.c
   unfolding plan_of
@@ -170,65 +170,65 @@ module _ (n : Named) (listed : Listed n) where
     in_c = has_all.in_c;
   }
 
-  is-good : T (good n.family n.a n.b (plan_of n).work)
-  is-good = rw whole_fields (all_good n.family n.a n.b n.c fields)
+  is_good : T (good n.family n.a n.b (plan_of n).work)
+  is_good = rw whole_fields (all_good n.family n.a n.b n.c fields)
 
   abbrev w : Work
   w = (plan_of n).work
 
   held : Hold (tests n.family n.a n.b w)
   unfolding good
-  held = all_hold (tests n.family n.a n.b w) is-good
+  held = all_hold (tests n.family n.a n.b w) is_good
 
   -- the plan names I exactly when isa says that there is an I operand
-  pub immediate-agrees : names_i (plan_of n).work ≡ asks_i (named_row n) n.a n.b
+  pub immediate_agrees : names_i (plan_of n).work ≡ asks_i (named_row n) n.a n.b
   unfolding tests
-  immediate-agrees = agree (names_i w) (asks_i row n.a n.b) held.0
+  immediate_agrees = agree (names_i w) (asks_i row n.a n.b) held.0
 
   -- the plan writes RAM exactly when document 01 sends the instruction there
-  pub ram-agrees : writes_ram (plan_of n).work ≡ to_ram n.family n.a n.b
+  pub ram_agrees : writes_ram (plan_of n).work ≡ to_ram n.family n.a n.b
   unfolding tests
-  ram-agrees = agree (writes_ram w) (to_ram n.family n.a n.b) held.1.0
+  ram_agrees = agree (writes_ram w) (to_ram n.family n.a n.b) held.1.0
 
   -- it prioritizes ACC under ACC exactly when the rule of 8 is broken
-  pub acc-agrees : acc_under_acc (plan_of n).work ≡ acc_twice (named_row n) n.a n.b
+  pub acc_agrees : acc_under_acc (plan_of n).work ≡ acc_twice (named_row n) n.a n.b
   unfolding tests
-  acc-agrees = agree (acc_under_acc w) (acc_twice row n.a n.b) held.1.1.0
+  acc_agrees = agree (acc_under_acc w) (acc_twice row n.a n.b) held.1.1.0
 
   -- it is a bit operation exactly when its family has the rule of 9
-  pub bit-agrees : is_bit (plan_of n).work.task ≡ eqb (named_row n).rule bit_in_mode
+  pub bit_agrees : is_bit (plan_of n).work.task ≡ eqb (named_row n).rule bit_in_mode
   unfolding tests
-  bit-agrees = agree (is_bit w.task) (eqb row.rule bit_in_mode) held.1.1.1.0
+  bit_agrees = agree (is_bit w.task) (eqb row.rule bit_in_mode) held.1.1.1.0
 
   -- a merge's destination is its R
-  pub merge-goes-back : (plan_of n).work.task ≡ Merge → (plan_of n).work.destination ≡ back (plan_of n).work.operands.second
+  pub merge_goes_back : (plan_of n).work.task ≡ Merge → (plan_of n).work.destination ≡ back (plan_of n).work.operands.second
   unfolding tests
-  merge-goes-back e =
+  merge_goes_back e =
       let to = same_destination w.destination (back w.operands.second) in
       destination_sound w.destination (back w.operands.second) (holds to (where_held (is_merge w.task) to held.1.1.1.1.0 (ap is_merge e)))
 
   -- a merge's R and a bit operation's source are RAM, ACC or D
-  pub merge-from : (plan_of n).work.task ≡ Merge → is_ram_acc_or_latch (plan_of n).work.operands.second ≡ true
+  pub merge_from : (plan_of n).work.task ≡ Merge → is_ram_acc_or_latch (plan_of n).work.operands.second ≡ true
   unfolding tests
-  merge-from e =
+  merge_from e =
       let from = is_ram_acc_or_latch w.operands.second in
       holds from (where_held (is_merge w.task) from held.1.1.1.1.1.0 (ap is_merge e))
 
-  pub bit-from : is_bit (plan_of n).work.task ≡ true → is_ram_acc_or_latch (plan_of n).work.operands.first ≡ true
+  pub bit_from : is_bit (plan_of n).work.task ≡ true → is_ram_acc_or_latch (plan_of n).work.operands.first ≡ true
   unfolding tests
-  bit-from e =
+  bit_from e =
       let from = is_ram_acc_or_latch w.operands.first in
       holds from (where_held (is_bit w.task) from held.1.1.1.1.1.1.0 e)
 
 -- the words: a word takes an I operand exactly when its plan names I, and its plan has the mode of its mark
 module _ (w : ℕ) (h : w < 0x10000) (n : Named) (e : decode_of w ≡ accepted n) where
-  pub word-immediate : takes_immediate w ≡ names_i (plan_of n).work
+  pub word_immediate : takes_immediate w ≡ names_i (plan_of n).work
   unfolding takes_immediate
-  word-immediate = ap (λ (t : Tells Named). wordNamesI t.value) e ∙ sym (immediate-agrees n (encode-takes n w (encode-decode w h n e)))
+  word_immediate = ap (λ (t : Tells Named). wordNamesI t.value) e ∙ sym (immediate_agrees n (encode_takes n w (encode_decode w h n e)))
 
-  pub word-mode : (plan_of n).mode ≡ mode_of (mark_of w)
+  pub word_mode : (plan_of n).mode ≡ mode_of (mark_of w)
   unfolding plan_of
-  word-mode = sym (ap (λ (n : Named). n.mode) (decode-named w h n e))
+  word_mode = sym (ap (λ (n : Named). n.mode) (decode_named w h n e))
 
 -- no two outcomes satisfy the statement of a call
 pub plan_for_unique : (n : Named) (p q : Plan) → p ≡ plan_of n → q ≡ plan_of n → p ≡ q

@@ -1,5 +1,5 @@
--- What 8 and 9 mean by the plan: of a named instruction of the list, `eight-planned` and `nine-planned`; of a word that a family takes,
--- `word-eight-planned` and `word-nine-planned`. So the rules of isa's table are those that document 01 tells.
+-- What 8 and 9 mean by the plan: of a named instruction of the list, `eight_planned` and `nine_planned`; of a word that a family takes,
+-- `word_eight_planned` and `word_nine_planned`. So the rules of isa's table are those that document 01 tells.
 -- A further law: `never_acc_twice`.
 use mathlib.Core.Path.{◌≡◌, refl, ◌∙◌, sym, ap}
 use mathlib.Core.Bool.{true, false}
@@ -19,7 +19,7 @@ use Rattle.isa.specs.declared.Row.{Row}
 use Rattle.isa.specs.Fields.{mark_for}
 use Rattle.isa.specs.Table.{bit_in_mode}
 use Rattle.isa.specs.Words.{InFamily, named_by, named_row, acc_twice, bit_too_high, decode_of, encode_of, Listed}
-use Rattle.isa.proofs.Laws.{encode-takes, named-eight, named-nine, named_in, number-of-named}
+use Rattle.isa.proofs.Laws.{encode_takes, named_eight, named_nine, named_in, number_of_named}
 use Rattle.isa.proofs.Takes.{in_turn}
 use Rattle.plan.specs.declared.Source.{Source}
 use Rattle.plan.specs.declared.Source.TheVariants.{Zero, Ram, Acc, Latch, Immediate, LatchZeroExtended, LatchSignExtended}
@@ -28,7 +28,7 @@ use Rattle.plan.specs.declared.Task.TheVariants.{NoOperation, TwoOperand, OneOpe
 use Rattle.plan.specs.declared.Work.{Work}
 use Rattle.plan.specs.Plans.{plan_of}
 use Rattle.plan.specs.Reading.{is_bit, is_prioritize, is_acc, acc_under_acc}
-use Rattle.plan.proofs.Laws.{plan-n, acc-agrees, bit-agrees}
+use Rattle.plan.proofs.Laws.{plan_n, acc_agrees, bit_agrees}
 
 of_prioritize : (t : Task) → is_prioritize t ≡ true → t ≡ Prioritize
 of_prioritize NoOperation h = absurd (never h)
@@ -85,48 +85,48 @@ one_rule r a b h = rw (eqb-true r.rule bit_in_mode h)
 
 module _ (n : Named) (listed : Listed n) where
   -- 8: it prioritizes ACC under ACC
-  pub eight-planned : ((encode_of n).number ≡ 8)
+  pub eight_planned : ((encode_of n).number ≡ 8)
       ↔ (((plan_of n).work.task ≡ Prioritize) × ((plan_of n).work.operands.first ≡ Acc) × ((plan_of n).work.operands.mask ≡ Acc))
-  eight-planned =
-      let e = named-eight n in
+  eight_planned =
+      let e = named_eight n in
       let p = acc_under_acc_lem (plan_of n).work in
-      (λ h. p.0 (acc-agrees n listed ∙ (e.0 h).1), λ h. e.1 (listed, sym (acc-agrees n listed) ∙ p.1 h))
+      (λ h. p.0 (acc_agrees n listed ∙ (e.0 h).1), λ h. e.1 (listed, sym (acc_agrees n listed) ∙ p.1 h))
 
   -- 9: it is a bit operation in byte mode, with n over 7
-  pub nine-planned : ((encode_of n).number ≡ 9) ↔ ((is_bit (plan_of n).work.task ≡ true) × ((plan_of n).mode ≡ Byte) × (7 < (plan_of n).n))
+  pub nine_planned : ((encode_of n).number ≡ 9) ↔ ((is_bit (plan_of n).work.task ≡ true) × ((plan_of n).mode ≡ Byte) × (7 < (plan_of n).n))
   unfolding plan_of
-  nine-planned =
-      let e = named-nine n in
+  nine_planned =
+      let e = named_nine n in
       let p = bit_too_high_lem (named_row n) n.mode n.a in
-      let rule = bit-agrees n listed in (
+      let rule = bit_agrees n listed in (
         λ h.
             let t = p.0 (e.0 h).2 in
-            (rule ∙ t.0, t.1, rw (plan-n n listed) t.2),
+            (rule ∙ t.0, t.1, rw (plan_n n listed) t.2),
         λ h.
             let t = sym rule ∙ h.0 in
-            e.1 (listed, one_rule (named_row n) n.a n.b t, p.1 (t, h.1, rw (plan-n n listed) at h.2)),
+            e.1 (listed, one_rule (named_row n) n.a n.b t, p.1 (t, h.1, rw (plan_n n listed) at h.2)),
       )
 
 -- and of a word
 module _ (f : Family) (w : ℕ) (h : w < 0x10000) (t : InFamily f w) where
-  pub word-eight-planned : ((decode_of w).number ≡ 8)
+  pub word_eight_planned : ((decode_of w).number ≡ 8)
       ↔ (((plan_of (named_by w)).work.task ≡ Prioritize) × ((plan_of (named_by w)).work.operands.first ≡ Acc) × ((plan_of (named_by w)).work.operands.mask ≡ Acc))
-  word-eight-planned =
-      let e = eight-planned (named_by w) (named_in f w h t) in
-      let same = number-of-named f w h t in
+  word_eight_planned =
+      let e = eight_planned (named_by w) (named_in f w h t) in
+      let same = number_of_named f w h t in
       (λ k. e.0 (same ∙ k), λ p. sym same ∙ e.1 p)
 
-  pub word-nine-planned : ((decode_of w).number ≡ 9)
+  pub word_nine_planned : ((decode_of w).number ≡ 9)
       ↔ ((is_bit (plan_of (named_by w)).work.task ≡ true) × ((plan_of (named_by w)).mode ≡ Byte) × (7 < (plan_of (named_by w)).n))
-  word-nine-planned =
-      let e = nine-planned (named_by w) (named_in f w h t) in
-      let same = number-of-named f w h t in
+  word_nine_planned =
+      let e = nine_planned (named_by w) (named_in f w h t) in
+      let same = number_of_named f w h t in
       (λ k. e.0 (same ∙ k), λ p. sym same ∙ e.1 p)
 
 -- so an accepted instruction never prioritizes ACC under ACC
 pub never_acc_twice : (n : Named) (w : ℕ) → encode_of n ≡ accepted w
     → (plan_of n).work.task ≡ Prioritize → (plan_of n).work.operands.first ≡ Acc → (plan_of n).work.operands.mask ≡ Acc → ⊥
 never_acc_twice n w e t f g =
-    let eight : (encode_of n).number ≡ 8 = (eight-planned n (encode-takes n w e)).1 (t, f, g) in
+    let eight : (encode_of n).number ≡ 8 = (eight_planned n (encode_takes n w e)).1 (t, f, g) in
     let none : (encode_of n).number ≡ 0 = ap (λ (t : Tells ℕ). t.number) e in
     omega (arith, eight, none)

@@ -51,42 +51,42 @@ bit_work k s = at_width (Bit k) (one s) (bit_to k s)
 module _ (l : Looking) where
   open l use {look}
 
-  abbrev pub workBy : Family → ℕ → ℕ → ℕ → Work
+  abbrev pub work_by : Family → ℕ → ℕ → ℕ → Work
   -- Q0
-  workBy Tor1 a b c = at_width (TwoOperand (look two_operands b)) (two (look ram_pair_r a) (look ram_pair_s a)) (look ram_pair_to a)
-  workBy Rotr1 a b c = at_width Rotate (one Ram) (look rotr1_to b)
+  work_by Tor1 a b c = at_width (TwoOperand (look two_operands b)) (two (look ram_pair_r a) (look ram_pair_s a)) (look ram_pair_to a)
+  work_by Rotr1 a b c = at_width Rotate (one Ram) (look rotr1_to b)
   -- Q1
-  workBy Rotr2 a b c = at_width Rotate (one (look rotate_u b)) ToRam
-  workBy Rotc a b c = at_width Compare (three (look rotate_u b) (look rotate_r b) (look rotate_mask b)) ToY
-  workBy Rotm a b c = at_width Merge (three (look rotate_u b) (look rotate_r b) (look rotate_mask b)) (back (look rotate_r b))
+  work_by Rotr2 a b c = at_width Rotate (one (look rotate_u b)) ToRam
+  work_by Rotc a b c = at_width Compare (three (look rotate_u b) (look rotate_r b) (look rotate_mask b)) ToY
+  work_by Rotm a b c = at_width Merge (three (look rotate_u b) (look rotate_r b) (look rotate_mask b)) (back (look rotate_r b))
   -- Q2
-  workBy Sor a b c = at_width (OneOperand (look one_operands a)) (one (look sources b)) (look sor_to b)
-  workBy Bor2 a b c = bit_work (look bor2_bits b) Ram
-  workBy Tor2 a b c = at_width (TwoOperand (look two_operands b)) (two (look pair_r a) (look pair_s a)) ToRam
-  workBy Shftr a b c = at_width (Shift (look shifts b)) (one (look (shift_source Ram) a)) ToRam
-  workBy Crcf a b c = at_width CrcForward (two Ram Acc) ToRam
-  workBy Crcr a b c = at_width CrcReverse (two Ram Acc) ToRam
-  workBy Prt1 a b c = whole Prioritize (masked (look prt1_source b) Ram) (look prt1_to a)
-  workBy Prt2 a b c = whole Prioritize (masked Ram (look mask_source a)) (look prt2_to b)
-  workBy Prt3 a b c = whole Prioritize (masked (look sources b) (look mask_source a)) ToRam
-  workBy Svstr a b c = whole SaveStatus (one Zero) ToRam
+  work_by Sor a b c = at_width (OneOperand (look one_operands a)) (one (look sources b)) (look sor_to b)
+  work_by Bor2 a b c = bit_work (look bor2_bits b) Ram
+  work_by Tor2 a b c = at_width (TwoOperand (look two_operands b)) (two (look pair_r a) (look pair_s a)) ToRam
+  work_by Shftr a b c = at_width (Shift (look shifts b)) (one (look (shift_source Ram) a)) ToRam
+  work_by Crcf a b c = at_width CrcForward (two Ram Acc) ToRam
+  work_by Crcr a b c = at_width CrcReverse (two Ram Acc) ToRam
+  work_by Prt1 a b c = whole Prioritize (masked (look prt1_source b) Ram) (look prt1_to a)
+  work_by Prt2 a b c = whole Prioritize (masked Ram (look mask_source a)) (look prt2_to b)
+  work_by Prt3 a b c = whole Prioritize (masked (look sources b) (look mask_source a)) ToRam
+  work_by Svstr a b c = whole SaveStatus (one Zero) ToRam
   -- Q3
-  workBy Sonr a b c = at_width (OneOperand (look one_operands a)) (one (look sources b)) (look no_ram_to c)
-  workBy Tonr a b c = at_width (TwoOperand (look two_operands b)) (two (look pair_r a) (look pair_s a)) (look no_ram_to c)
-  workBy Shftnr a b c = at_width (Shift (look shifts b)) (one (look (shift_source Acc) a)) (look no_ram_to c)
-  workBy Bor1 a b c = bit_work (look bor1_bits b) Ram
-  workBy Bonr a b c = bit_work (look bonr_bits c) (look bonr_source c)
-  workBy Rotnr a b c = at_width Rotate (one (look rotnr_source c)) (look rotnr_to c)
-  workBy Prtnr a b c = whole Prioritize (masked (look sources b) (look mask_source a)) (look no_ram_to c)
-  workBy Svstnr a b c = whole SaveStatus (one Zero) (look no_ram_to c)
-  workBy Setst a b c = whole (SetStatus (look status_bits c)) (one Zero) ToY
-  workBy Rstst a b c = whole (ResetStatus (look status_bits c)) (one Zero) ToY
-  workBy Test a b c = idle TestStatus (Instruction (c / 2))
-  workBy Noop a b c = idle NoOperation Pins
+  work_by Sonr a b c = at_width (OneOperand (look one_operands a)) (one (look sources b)) (look no_ram_to c)
+  work_by Tonr a b c = at_width (TwoOperand (look two_operands b)) (two (look pair_r a) (look pair_s a)) (look no_ram_to c)
+  work_by Shftnr a b c = at_width (Shift (look shifts b)) (one (look (shift_source Acc) a)) (look no_ram_to c)
+  work_by Bor1 a b c = bit_work (look bor1_bits b) Ram
+  work_by Bonr a b c = bit_work (look bonr_bits c) (look bonr_source c)
+  work_by Rotnr a b c = at_width Rotate (one (look rotnr_source c)) (look rotnr_to c)
+  work_by Prtnr a b c = whole Prioritize (masked (look sources b) (look mask_source a)) (look no_ram_to c)
+  work_by Svstnr a b c = whole SaveStatus (one Zero) (look no_ram_to c)
+  work_by Setst a b c = whole (SetStatus (look status_bits c)) (one Zero) ToY
+  work_by Rstst a b c = whole (ResetStatus (look status_bits c)) (one Zero) ToY
+  work_by Test a b c = idle TestStatus (Instruction (c / 2))
+  work_by Noop a b c = idle NoOperation Pins
 
 -- the work that is meant: tables are looked up as they are printed
 unfoldable pub work_of : Family → ℕ → ℕ → ℕ → Work
-work_of = workBy as_printed
+work_of = work_by as_printed
 
 -- the plan of a named instruction: A is n where there is one, and C the register where there is one. Fields count modulo their range,
 -- in which every instruction of the list has them

@@ -174,7 +174,7 @@ abbrev pub no_ram_to : Table Destination
 no_ram_to = (0 ↣ ToY ∷ 1 ↣ ToAcc ∷ 4 ↣ ToStatus ∷ 5 ↣ ToAccAndStatus ∷ []) otherwise ToY
 
 -- where a merge's R, or a bit operation's source, is a destination too: RAM and ACC are, and D is not. Other sources do not come here (laws
--- `merge-from` and `bit-from` of proofs/Laws)
+-- `merge_from` and `bit_from` of proofs/Laws)
 abbrev pub back : Source → Destination
 back Zero = ToY
 back Ram = ToRam

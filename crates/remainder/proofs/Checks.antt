@@ -14,7 +14,7 @@ use Rattle.trace.specs.Check.{check_of}
 use Rattle.trace.specs.Layout.{checked_bytes, part}
 use Rattle.trace.specs.Blocks.{check_held, check_good}
 use Rattle.trace.specs.Folding.{fold_bit, fold_bits, fold_bytes}
-use Rattle.trace.proofs.Folded.{check-fold}
+use Rattle.trace.proofs.Folded.{check_fold}
 use Rattle.remainder.specs.Remainder.{digit, dividend, divisor, Remainder}
 use Rattle.remainder.specs.Bytes.{high_first, bits_of}
 use Rattle.remainder.proofs.Division.{no_bits, one_bit}
@@ -38,7 +38,7 @@ bytes_left [] bits r h = rw append-nil h
 bytes_left (byte ∷ bytes) bits r h = rw append_assoc at (bytes_left bytes (bits ++ high_first 8 byte) (fold_bits 8 r byte) (bits_left 8 bits r byte h))
 
 pub check_remainder : (bytes : List ℕ) → Remainder (divisor 0x1021) (dividend 0 (bits_of high_first bytes)) (check_of bytes)
-check_remainder bytes = rw (check-fold bytes) (bytes_left bytes [] 0 (no_bits 0x1021 0 (omega arith)))
+check_remainder bytes = rw (check_fold bytes) (bytes_left bytes [] 0 (no_bits 0x1021 0 (omega arith)))
 
 -- so the check word of a block that 12 does not refuse is the remainder of its bytes 0 to 509
 pub block_remainder : (block : List ℕ) → check_good block ≡ true

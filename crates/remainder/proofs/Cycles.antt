@@ -24,11 +24,11 @@ use Rattle.machine.specs.Seeing.{register_at, view_of}
 use Rattle.machine.specs.Acting.{outcome_for, performed_of}
 use Rattle.machine.specs.Settling.{latched}
 use Rattle.machine.specs.Cycles.{Turned, machine_of, cycle_of, written}
-use Rattle.machine.proofs.Spelt.{performs-at-once, leaves-at-once}
+use Rattle.machine.proofs.Spelt.{performs_at_once, leaves_at_once}
 use Rattle.run.specs.Leading.{Accepts}
 use Rattle.remainder.specs.Remainder.{put_in_link, Direction, forward, reverse, step_on, Asks, digit, mirror, oriented}
-use Rattle.remainder.proofs.Division.{next-lt}
-use Rattle.remainder.proofs.Mirrors.{mirror_lt, mirrored-step}
+use Rattle.remainder.proofs.Division.{next_lt}
+use Rattle.remainder.proofs.Mirrors.{mirror_lt, mirrored_step}
 
 -- A cycle of an instruction without an I operand, nothing waiting.
 module _ (m : Machine) (c : Words) (i : Named) (idle : m.registers.waiting ≡ Nothing) (asks : Asks i c) (single : asks_i (named_row i) i.a i.b ≡ false) where
@@ -39,11 +39,11 @@ module _ (m : Machine) (c : Words) (i : Named) (idle : m.registers.waiting ≡ N
   before = latched m.registers c.input c.pins
 
   accepts : Accepts m c
-  accepts = (_, ap (λ (t : Turned). t.answer) (performs-at-once m c i idle asks.stray asks.clash asks.word single))
+  accepts = (_, ap (λ (t : Turned). t.answer) (performs_at_once m c i idle asks.stray asks.clash asks.word single))
 
   leaves : (cycle_of m c).machine
       ≡ machine_of (written plan.mode plan.register before plan.work.destination (performed_of plan (view_of plan.mode plan.register before 0)))
-  leaves = leaves-at-once m c i idle asks.stray asks.clash asks.word single asks.low
+  leaves = leaves_at_once m c i idle asks.stray asks.clash asks.word single asks.low
 
 -- A bit is put into LINK, bit 4 of the status; nothing else changes but D.
 
@@ -63,7 +63,7 @@ pub record Put (b : Bool) (m : Machine) (c : Words) : Type 0 where
   pub link : stored_link (cycle_of m c).machine.registers.status ≡ digit b
 
 module _ (m : Machine) (c : Words) (idle : m.registers.waiting ≡ Nothing) where
-  after-bit : (b : Bool) → Asks (put_in_link b) c → (cycle_of m c).machine ≡ machine_of (record {
+  after_bit : (b : Bool) → Asks (put_in_link b) c → (cycle_of m c).machine ≡ machine_of (record {
     ram = m.registers.ram;
     acc = m.registers.acc;
     latch = (latched m.registers c.input c.pins).latch;
@@ -71,18 +71,18 @@ module _ (m : Machine) (c : Words) (idle : m.registers.waiting ≡ Nothing) wher
     waiting = Nothing;
   })
   unfolding plan_of work_of outcome_for view_of
-  after-bit true asks = leaves m c (put_in_link true) idle asks refl
-  after-bit false asks = leaves m c (put_in_link false) idle asks refl
+  after_bit true asks = leaves m c (put_in_link true) idle asks refl
+  after_bit false asks = leaves m c (put_in_link false) idle asks refl
 
-  bit-without-I : (b : Bool) → asks_i (named_row (put_in_link b)) (put_in_link b).a (put_in_link b).b ≡ false
-  bit-without-I true = refl
-  bit-without-I false = refl
+  bit_without_I : (b : Bool) → asks_i (named_row (put_in_link b)) (put_in_link b).a (put_in_link b).b ≡ false
+  bit_without_I true = refl
+  bit_without_I false = refl
 
   pub put : (b : Bool) → Asks (put_in_link b) c → Put b m c
   put b asks =
-      let e = after-bit b asks in
+      let e = after_bit b asks in
       record {
-        accepts = accepts m c (put_in_link b) idle asks (bit-without-I b);
+        accepts = accepts m c (put_in_link b) idle asks (bit_without_I b);
         ram = ap (λ (n : Machine). n.registers.ram) e;
         acc = ap (λ (n : Machine). n.registers.acc) e;
         waiting = ap (λ (n : Machine). n.registers.waiting) e;
@@ -106,7 +106,7 @@ unfolding outcome_of
 step_result forward p a status hp ha = ap₂ (λ (x y : ℕ). (crc_forward 16 x y status).result) (seen a ha) (seen p hp)
 step_result reverse p a status hp ha =
     ap₂ (λ (x y : ℕ). (crc_reverse 16 x y status).result) (seen (mirror 16 a) (mirror_lt 16 a)) (seen (mirror 16 p) (mirror_lt 16 p))
-    ∙ mirrored-step 15 p a status
+    ∙ mirrored_step 15 p a status
 
 pub oriented_lt : (d : Direction) (x : ℕ) → x < 2 ^ 16 → oriented d x < 2 ^ 16
 oriented_lt forward x h = h
@@ -121,7 +121,7 @@ written_is : (d : Direction) (p a status : ℕ) → p < 2 ^ 16 → a < 2 ^ 16
 written_is d p a status hp ha =
     let next = (crc_forward 16 a p status).result in
     ap (write_back 16 (oriented d a)) (step_result d p a status hp ha)
-    ∙ written_over 16 (oriented d a) (oriented d next) (oriented_lt d a ha) (oriented_lt d next (next-lt p a status hp ha))
+    ∙ written_over 16 (oriented d a) (oriented d next) (oriented_lt d a ha) (oriented_lt d next (next_lt p a status hp ha))
 
 -- the status after it, which nothing here looks at
 abbrev status_by : Direction → ℕ → ℕ → ℕ → ℕ

@@ -16,7 +16,7 @@ use Rattle.alu.specs.Operations.{gated, moved_up, crc_forward}
 use Rattle.alu.proofs.Bits.{bit_cases}
 use Rattle.alu.proofs.Shapes.{gated_lt, moved_up_lt}
 use Rattle.alu.proofs.Xors.{xor_assoc, xor_shl, xor_front}
-use Rattle.alu.proofs.Linear.{fed, fed-lt, step_is}
+use Rattle.alu.proofs.Linear.{fed, fed_lt, step_is}
 use Rattle.remainder.specs.Remainder.{digit, message_polynomial, dividend, divisor, product, Remainder}
 use Rattle.remainder.proofs.Multiples.{longer, product_next}
 
@@ -33,7 +33,7 @@ polynomial_next (c ∷ bits) b =
 
 dividend_next : (start : ℕ) (bits : List Bool) (b : Bool) → dividend start (bits ++ b ∷ []) ≡ bit_xor (dividend start bits * 2) (digit b * 2 ^ 16)
 dividend_next start bits b =
-    ap₂ bit_xor start-part message-part
+    ap₂ bit_xor start_part message_part
     ∙ sym (xor_assoc (start * 2 ^ m * 2) (v * 2 ^ 16 * 2) (digit b * 2 ^ 16))
     ∙ ap (λ (x : ℕ). bit_xor x (digit b * 2 ^ 16)) (xor_shl (start * 2 ^ m) (v * 2 ^ 16) 1)
   where
@@ -43,11 +43,11 @@ dividend_next start bits b =
     v : ℕ
     v = message_polynomial bits
 
-    start-part : start * 2 ^ length (bits ++ b ∷ []) ≡ start * 2 ^ m * 2
-    start-part = ap (λ (size : ℕ). start * size) (longer bits b) ∙ omega arith
+    start_part : start * 2 ^ length (bits ++ b ∷ []) ≡ start * 2 ^ m * 2
+    start_part = ap (λ (size : ℕ). start * size) (longer bits b) ∙ omega arith
 
-    message-part : message_polynomial (bits ++ b ∷ []) * 2 ^ 16 ≡ bit_xor (v * 2 ^ 16 * 2) (digit b * 2 ^ 16)
-    message-part =
+    message_part : message_polynomial (bits ++ b ∷ []) * 2 ^ 16 ≡ bit_xor (v * 2 ^ 16 * 2) (digit b * 2 ^ 16)
+    message_part =
         let e : v * 2 * 2 ^ 16 ≡ v * 2 ^ 16 * 2 = omega arith in
         ap (λ (x : ℕ). x * 2 ^ 16) (polynomial_next bits b ∙ sym (xor_shifted v 1 (digit b) (digit_lt b)))
         ∙ sym (xor_shl (v * 2) (digit b) 16)
@@ -68,25 +68,25 @@ module _ (p a status : ℕ) (hp : p < 2 ^ 16) (ha : a < 2 ^ 16) where
   abbrev next : ℕ
   next = (crc_forward 16 a p status).result
 
-  moved-lt : moved < 2 ^ 16
-  moved-lt = moved_up_lt 16 a 0
+  moved_lt : moved < 2 ^ 16
+  moved_lt = moved_up_lt 16 a 0
 
-  pub next-lt : next < 2 ^ 16
-  next-lt = rw (step_is 16 p a status) (xor_lt 16 moved (gated lead p) moved-lt (gated_lt 16 lead p hp))
+  pub next_lt : next < 2 ^ 16
+  next_lt = rw (step_is 16 p a status) (xor_lt 16 moved (gated lead p) moved_lt (gated_lt 16 lead p hp))
 
   -- x times the register and the bit: what would stand at x^16, and the register moved up
-  times-x : bit_xor (a * 2) (link * 2 ^ 16) ≡ lead * 2 ^ 16 + moved
+  times_x : bit_xor (a * 2) (link * 2 ^ 16) ≡ lead * 2 ^ 16 + moved
   unfolding moved_up
-  times-x =
+  times_x =
       let up : a * 2 ≡ bit 15 a * 2 ^ 16 + (a * 2 + 0) % 2 ^ 16 = omega arith in
       let over : link * 2 ^ 16 ≡ link * 2 ^ 16 + 0 = omega arith in
       ap₂ bit_xor up over
-      ∙ xor_block 16 (bit 15 a) link ((a * 2 + 0) % 2 ^ 16) 0 moved-lt (pow_pos 16)
+      ∙ xor_block 16 (bit 15 a) link ((a * 2 + 0) % 2 ^ 16) 0 moved_lt (pow_pos 16)
       ∙ ap₂ (λ (x y : ℕ). x * 2 ^ 16 + y) (xor_comm (bit 15 a) link) (xor_zero_r ((a * 2 + 0) % 2 ^ 16))
 
   -- subtracting the divisor removes x^16
-  taken-off : (f : ℕ) → f < 2 → bit_xor (pick (eqb f 1) (divisor p) 0) (bit_xor moved (gated f p)) ≡ f * 2 ^ 16 + moved
-  taken-off = bit_cases (λ (f : ℕ). bit_xor (pick (eqb f 1) (divisor p) 0) (bit_xor moved (gated f p)) ≡ f * 2 ^ 16 + moved) none once
+  taken_off : (f : ℕ) → f < 2 → bit_xor (pick (eqb f 1) (divisor p) 0) (bit_xor moved (gated f p)) ≡ f * 2 ^ 16 + moved
+  taken_off = bit_cases (λ (f : ℕ). bit_xor (pick (eqb f 1) (divisor p) 0) (bit_xor moved (gated f p)) ≡ f * 2 ^ 16 + moved) none once
     where
       none : bit_xor 0 (bit_xor moved 0) ≡ 0 * 2 ^ 16 + moved
       none = xor_zero_l (bit_xor moved 0) ∙ xor_zero_r moved ∙ omega arith
@@ -96,13 +96,13 @@ module _ (p a status : ℕ) (hp : p < 2 ^ 16) (ha : a < 2 ^ 16) where
           let top : 2 ^ 16 + p ≡ 1 * 2 ^ 16 + p = omega arith in
           let low : bit_xor moved p ≡ 0 * 2 ^ 16 + bit_xor moved p = omega arith in
           ap₂ bit_xor top low
-          ∙ xor_block 16 1 0 p (bit_xor moved p) hp (xor_lt 16 moved p moved-lt hp)
+          ∙ xor_block 16 1 0 p (bit_xor moved p) hp (xor_lt 16 moved p moved_lt hp)
           ∙ ap (λ (x : ℕ). 1 * 2 ^ 16 + x) (xor_front p moved)
 
-  pub step-divides : bit_xor (a * 2) (link * 2 ^ 16) ≡ bit_xor (pick (eqb lead 1) (divisor p) 0) next
-  step-divides =
-      times-x
-      ∙ sym (taken-off lead (fed-lt 16 p a status))
+  pub step_divides : bit_xor (a * 2) (link * 2 ^ 16) ≡ bit_xor (pick (eqb lead 1) (divisor p) 0) next
+  step_divides =
+      times_x
+      ∙ sym (taken_off lead (fed_lt 16 p a status))
       ∙ ap (bit_xor (pick (eqb lead 1) (divisor p) 0)) (sym (step_is 16 p a status))
 
 -- the empty message leaves the start
@@ -125,9 +125,9 @@ one_bit p start bits b a status hp link r =
       makes =
           ap (λ (x : ℕ). bit_xor x next) (product_next (divisor p) r.quotient q)
           ∙ xor_assoc (whole * 2) (pick q (divisor p) 0) next
-          ∙ ap (bit_xor (whole * 2)) (sym (step-divides p a status hp r.small) ∙ ap (λ (x : ℕ). bit_xor (a * 2) (x * 2 ^ 16)) link)
+          ∙ ap (bit_xor (whole * 2)) (sym (step_divides p a status hp r.small) ∙ ap (λ (x : ℕ). bit_xor (a * 2) (x * 2 ^ 16)) link)
           ∙ sym (xor_assoc (whole * 2) (a * 2) (digit b * 2 ^ 16))
           ∙ ap (λ (x : ℕ). bit_xor x (digit b * 2 ^ 16)) (xor_shl whole a 1 ∙ ap (λ (x : ℕ). x * 2) r.makes)
           ∙ sym (dividend_next start bits b);
-      small = next-lt p a status hp r.small;
+      small = next_lt p a status hp r.small;
     }

@@ -13,7 +13,7 @@ use Rattle.run.specs.Splitting.{words_per_report, cycle_words}
 use Rattle.run.specs.Runs.{run_of, Gives}
 use Rattle.run.specs.Leading.{Leads}
 use Rattle.remainder.specs.Remainder.{Direction, Feeds, Ready, Holds}
-use Rattle.remainder.proofs.Messages.{at-start, through, run-through}
+use Rattle.remainder.proofs.Messages.{at_start_lem, through, run_through}
 
 -- A message of any length, its cycles in sequence: all are accepted, and then the register has the remainder. One theorem says it of CRCF
 -- and, in the mirror, of CRCR.
@@ -21,7 +21,7 @@ pub remainder_left : (d : Direction) (k start polynomial : ℕ) (message : List 
     → Ready d k start polynomial m.registers → Feeds d k message cycles
     → (n : Machine) × Leads m cycles n × Holds d k start polynomial message m.registers n.registers
 remainder_left d k start polynomial message cycles m ready feeds =
-    through d k start polynomial m.registers ready [] message cycles m (at-start d k start polynomial m.registers ready) feeds
+    through d k start polynomial m.registers ready [] message cycles m (at_start_lem d k start polynomial m.registers ready) feeds
 
 -- A message of at most 2,048 bits in one run, with budget and room for its reports: any answer that meets the statement of `run` says that all
 -- is done, and its machine has the remainder.
@@ -32,7 +32,7 @@ pub remainder_run : (d : Direction) (k start polynomial : ℕ) (message : List B
     → Gives m (run_of m (cycle_words cycles) budget (length reports)) r reports after
     → (r.ending ≡ Done) × (r.accepted ≡ 2 * length message) × Holds d k start polynomial message m.registers r.machine.registers
 remainder_run d k start polynomial message cycles m budget reports after r ready feeds =
-    run-through d k start polynomial m.registers ready [] message cycles m (at-start d k start polynomial m.registers ready) feeds budget reports after r
+    run_through d k start polynomial m.registers ready [] message cycles m (at_start_lem d k start polynomial m.registers ready) feeds budget reports after r
 
 -- A longer message goes through piece by piece, in sequence or in runs: where a machine holds the remainder of some bits, the cycles of more bits
 -- lead to the remainder of all.
@@ -48,4 +48,4 @@ pub piece_run : (d : Direction) (k start polynomial : ℕ) (bits more : List Boo
     → Gives m (run_of m (cycle_words cycles) budget (length reports)) r reports after
     → (r.ending ≡ Done) × (r.accepted ≡ 2 * length more) × Holds d k start polynomial (bits ++ more) before r.machine.registers
 piece_run d k start polynomial bits more cycles before m budget reports after r ready holds feeds =
-    run-through d k start polynomial before ready bits more cycles m holds feeds budget reports after r
+    run_through d k start polynomial before ready bits more cycles m holds feeds budget reports after r

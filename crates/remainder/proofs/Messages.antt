@@ -34,8 +34,8 @@ module _ (d : Direction) (k start polynomial : ℕ) (before : Registers) (ready 
   abbrev After : List Bool → Registers → Type 0
   After bits r = Holds d k start polynomial bits before r
 
-  pub at-start : After [] before
-  at-start = record {
+  pub at_start_lem : After [] before
+  at_start_lem = record {
     remainder = start;
     divided = no_bits polynomial start ready.start_lt;
     register = ready.register;
@@ -64,21 +64,21 @@ module _ (d : Direction) (k start polynomial : ℕ) (before : Registers) (ready 
         stepped d k polynomial held.remainder middle y first.waiting steps ready.polynomial_lt held.divided.small
         (ap (λ (l : List ℕ). get_or l (k % 32) 0) first.ram ∙ held.register) (first.acc ∙ held.acc ∙ ready.acc)
 
-    ram-is : end.registers.ram ≡ set m.registers.ram (k % 32) (oriented d left)
-    ram-is = second.ram ∙ ap (λ (l : List ℕ). set l (k % 32) (oriented d left)) first.ram
+    ram_is : end.registers.ram ≡ set m.registers.ram (k % 32) (oriented d left)
+    ram_is = second.ram ∙ ap (λ (l : List ℕ). set l (k % 32) (oriented d left)) first.ram
 
     one_more_lem : After (bits ++ b ∷ []) end.registers
     one_more_lem = record {
       remainder = left;
       divided = one_bit polynomial start bits b held.remainder middle.registers.status ready.polynomial_lt first.link held.divided;
       register =
-          ap (λ (l : List ℕ). get_or l (k % 32) 0) ram-is
+          ap (λ (l : List ℕ). get_or l (k % 32) 0) ram_is
           ∙ get_or-set_same m.registers.ram (k % 32) (oriented d left) 0 (omega (arith, held.size));
       others = λ j h away.
-          ap (λ (l : List ℕ). get_or l (j % 32) 0) ram-is
+          ap (λ (l : List ℕ). get_or l (j % 32) 0) ram_is
           ∙ get_or-set_other m.registers.ram (k % 32) (j % 32) (oriented d left) 0 (λ same. away (omega (arith, ready.address)))
           ∙ held.others j h away;
-      size = ap length ram-is ∙ length-set m.registers.ram (k % 32) (oriented d left) ∙ held.size;
+      size = ap length ram_is ∙ length-set m.registers.ram (k % 32) (oriented d left) ∙ held.size;
       acc = second.acc ∙ first.acc ∙ held.acc;
       waiting = second.waiting;
     }
@@ -98,12 +98,12 @@ module _ (d : Direction) (k start polynomial : ℕ) (before : Registers) (ready 
       )
 
   -- and in a run
-  pub run-through : (bits message : List Bool) (cycles : List Words) (m : Machine) → After bits m.registers → Feeds d k message cycles
+  pub run_through : (bits message : List Bool) (cycles : List Words) (m : Machine) → After bits m.registers → Feeds d k message cycles
       → (budget : ℕ) (reports after : List ℕ) (r : Ran)
       → length message ≤ 2048 → 2 * length message ≤ budget → words_per_report * (2 * length message) ≤ length reports
       → Gives m (run_of m (cycle_words cycles) budget (length reports)) r reports after
       → (r.ending ≡ Done) × (r.accepted ≡ 2 * length message) × After (bits ++ message) r.machine.registers
-  run-through bits message cycles m held feeds budget reports after r few enough fits gives =
+  run_through bits message cycles m held feeds budget reports after r few enough fits gives =
       let long = feeds_length d k message cycles feeds in
       let led = through bits message cycles m held feeds in
       let ran = leads_answer m led.0 cycles budget reports after r held.waiting led.1 (omega arith) (omega arith) (omega arith) gives in

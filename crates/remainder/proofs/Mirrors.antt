@@ -13,7 +13,7 @@ use Rattle.alu.specs.Width.{bit}
 use Rattle.alu.specs.Flags.{stored_link, plain, linked, with_sign}
 use Rattle.alu.specs.Operations.{gated, moved_up, moved_down, crc_step, crc_forward, crc_reverse}
 use Rattle.alu.proofs.Bits.{bit_cases, bit_lt, bit_shr, bit_lower, bit_upper}
-use Rattle.alu.proofs.Linear.{fed, fed-lt, step_is}
+use Rattle.alu.proofs.Linear.{fed, fed_lt, step_is}
 use Rattle.remainder.specs.Remainder.{mirror}
 
 pub mirror_lt : (k x : ℕ) → mirror k x < 2 ^ k
@@ -111,15 +111,15 @@ module _ (k p a status : ℕ) where
       let e : 0 + mirror width a ≡ mirror k a * 2 + bit k a = omega (arith, mirror_top k a) in
       ap (λ (x : ℕ). x / 2) e ∙ digits_div (mirror k a) (bit_lt k a) ∙ sym (mirror_low width (a * 2 + 0) ∙ mirror_up k a)
 
-  out-is : mirror width a % 2 ≡ bit (width - 1) a
-  out-is =
+  out_is : mirror width a % 2 ≡ bit (width - 1) a
+  out_is =
       let top : k ≡ width - 1 = omega arith in
       ap (λ (x : ℕ). x % 2) (mirror_top k a) ∙ digits_mod (mirror k a) (bit_lt k a) ∙ ap (λ (i : ℕ). bit i a) top
 
-  pub mirrored-step : (crc_reverse width (mirror width a) (mirror width p) status).result ≡ mirror width (crc_forward width a p status).result
+  pub mirrored_step : (crc_reverse width (mirror width a) (mirror width p) status).result ≡ mirror width (crc_forward width a p status).result
   unfolding plain linked with_sign crc_step crc_reverse
-  mirrored-step =
-      ap₂ (λ (m out : ℕ). bit_xor m (gated (bit_xor (stored_link status) out) (mirror width p))) down_is out-is
-      ∙ ap (bit_xor (mirror width moved)) (sym (mirror_gated width p (fed width p a status) (fed-lt width p a status)))
+  mirrored_step =
+      ap₂ (λ (m out : ℕ). bit_xor m (gated (bit_xor (stored_link status) out) (mirror width p))) down_is out_is
+      ∙ ap (bit_xor (mirror width moved)) (sym (mirror_gated width p (fed width p a status) (fed_lt width p a status)))
       ∙ sym (mirror_xor width moved (gated (fed width p a status) p))
       ∙ ap (mirror width) (sym (step_is width p a status))

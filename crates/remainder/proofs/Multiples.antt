@@ -1,5 +1,5 @@
 -- Multiples of a divisor of degree 16, and that no two numbers are its remainder.
--- The law: `one-remainder`.
+-- The law: `one_remainder`.
 use mathlib.Core.Path.{◌≡◌, refl, sym, ap, ap₂, ◌∙◌}
 use mathlib.Core.Bool.{Bool, true, false}
 use mathlib.Core.List.{List, [], ◌∷◌, ◌++◌}
@@ -51,38 +51,38 @@ module _ (p : ℕ) (hp : p < 2 ^ 16) where
   made bits r = bit_xor (product by bits) r
 
   -- degrees
-  single-lt : (b : Bool) (n : ℕ) → pick b (by * 2 ^ n) 0 < 2 ^ (17 + n)
-  single-lt true n = shl_lt 17 n (omega arith)
-  single-lt false n = pow_pos (17 + n)
+  single_lt : (b : Bool) (n : ℕ) → pick b (by * 2 ^ n) 0 < 2 ^ (17 + n)
+  single_lt true n = shl_lt 17 n (omega arith)
+  single_lt false n = pow_pos (17 + n)
 
   product_lt : (bits : List Bool) → product by bits < 2 ^ (16 + length bits)
   product_lt [] = pow_pos 16
   product_lt (b ∷ bits) =
       let n = length bits in
       let e : 16 + suc n ≡ 17 + n = omega arith in
-      rw e (xor_lt (17 + n) (pick b (by * 2 ^ n) 0) (product by bits) (single-lt b n) (lt_of_lt_of_le (product_lt bits) (pow_mono (omega arith))))
+      rw e (xor_lt (17 + n) (pick b (by * 2 ^ n) 0) (product by bits) (single_lt b n) (lt_of_lt_of_le (product_lt bits) (pow_mono (omega arith))))
 
-  made-lt : (bits : List Bool) (r : ℕ) → r < 2 ^ 16 → made bits r < 2 ^ (16 + length bits)
-  made-lt bits r h = xor_lt (16 + length bits) (product by bits) r (product_lt bits) (lt_of_lt_of_le h (pow_mono {i = 16} (omega arith)))
+  made_lt : (bits : List Bool) (r : ℕ) → r < 2 ^ 16 → made bits r < 2 ^ (16 + length bits)
+  made_lt bits r h = xor_lt (16 + length bits) (product by bits) r (product_lt bits) (lt_of_lt_of_le h (pow_mono {i = 16} (omega arith)))
 
   -- the highest coefficient is the quotient's first bit
-  first-top : (b : Bool) (n : ℕ) → bit (16 + n) (pick b (by * 2 ^ n) 0) ≡ digit b
-  first-top true n =
+  first_top : (b : Bool) (n : ℕ) → bit (16 + n) (pick b (by * 2 ^ n) 0) ≡ digit b
+  first_top true n =
       let e : 16 + n ≡ n + 16 = omega arith in
       let z : by * 2 ^ n ≡ by * 2 ^ n + 0 = omega arith in
       let top : bit 16 by ≡ 1 = omega arith in
       ap₂ bit e z ∙ bit_upper n 16 by 0 (pow_pos n) ∙ top
-  first-top false n = bit_above (16 + n) 0 (pow_pos (16 + n))
+  first_top false n = bit_above (16 + n) 0 (pow_pos (16 + n))
 
   made_first : (b : Bool) (bits : List Bool) (r : ℕ) → made (b ∷ bits) r ≡ bit_xor (pick b (by * 2 ^ length bits) 0) (made bits r)
   made_first b bits r = xor_assoc (pick b (by * 2 ^ length bits) 0) (product by bits) r
 
-  made-top : (b : Bool) (bits : List Bool) (r : ℕ) → r < 2 ^ 16 → bit (16 + length bits) (made (b ∷ bits) r) ≡ digit b
-  made-top b bits r h =
+  made_top : (b : Bool) (bits : List Bool) (r : ℕ) → r < 2 ^ 16 → bit (16 + length bits) (made (b ∷ bits) r) ≡ digit b
+  made_top b bits r h =
       let n = length bits in
       ap (bit (16 + n)) (made_first b bits r)
       ∙ bit_xor_lem (16 + n) (pick b (by * 2 ^ n) 0) (made bits r)
-      ∙ ap₂ bit_xor (first-top b n) (bit_above (16 + n) (made bits r) (made-lt bits r h))
+      ∙ ap₂ bit_xor (first_top b n) (bit_above (16 + n) (made bits r) (made_lt bits r h))
       ∙ xor_zero_r (digit b)
 
   -- two quotients of one length that make the same number leave the same remainder
@@ -94,7 +94,7 @@ module _ (p : ℕ) (hp : p < 2 ^ 16) where
       let n = length qs in
       let m : length ts ≡ n = omega arith in
       let top : digit q ≡ digit t =
-      sym (made-top q qs r hr) ∙ ap (bit (16 + n)) e ∙ ap (λ (i : ℕ). bit (16 + i) (made (t ∷ ts) s)) (sym m) ∙ made-top t ts s hs in
+      sym (made_top q qs r hr) ∙ ap (bit (16 + n)) e ∙ ap (λ (i : ℕ). bit (16 + i) (made (t ∷ ts) s)) (sym m) ∙ made_top t ts s hs in
       let first : pick t (by * 2 ^ length ts) 0 ≡ pick q (by * 2 ^ n) 0 =
       ap₂ (λ (b : Bool) (i : ℕ). pick b (by * 2 ^ i) 0) (sym (digit_one q t top)) m in
       same_made qs ts r s (sym m) hr hs
@@ -102,18 +102,18 @@ module _ (p : ℕ) (hp : p < 2 ^ 16) where
       (sym (made_first q qs r) ∙ e ∙ made_first t ts s ∙ ap (λ (x : ℕ). bit_xor x (made ts s)) first))
 
   -- zeros before a quotient change nothing
-  zeros-first : (n : ℕ) (bits : List Bool) → product by (replicate n false ++ bits) ≡ product by bits
-  zeros-first zero bits = refl
-  zeros-first (suc n) bits = zeros-first n bits
+  zeros_first : (n : ℕ) (bits : List Bool) → product by (replicate n false ++ bits) ≡ product by bits
+  zeros_first zero bits = refl
+  zeros_first (suc n) bits = zeros_first n bits
 
-  zeros-long : (n : ℕ) (bits : List Bool) → length (replicate n false ++ bits) ≡ n + length bits
-  zeros-long n bits = length-append (replicate n false) bits ∙ ap (λ (k : ℕ). k + length bits) (length-replicate n false)
+  zeros_long : (n : ℕ) (bits : List Bool) → length (replicate n false ++ bits) ≡ n + length bits
+  zeros_long n bits = length-append (replicate n false) bits ∙ ap (λ (k : ℕ). k + length bits) (length-replicate n false)
 
-  pub one-remainder : (n r s : ℕ) → Remainder (divisor p) n r → Remainder (divisor p) n s → r ≡ s
-  one-remainder n r s a b =
+  pub one_remainder : (n r s : ℕ) → Remainder (divisor p) n r → Remainder (divisor p) n s → r ≡ s
+  one_remainder n r s a b =
       let qs = a.quotient in
       let ts = b.quotient in
       same_made (replicate (length ts) false ++ qs) (replicate (length qs) false ++ ts) r s
-      (omega (arith, zeros-long (length ts) qs, zeros-long (length qs) ts)) a.small b.small
-      (ap (λ (x : ℕ). bit_xor x r) (zeros-first (length ts) qs) ∙ a.makes ∙ sym b.makes
-      ∙ ap (λ (x : ℕ). bit_xor x s) (sym (zeros-first (length qs) ts)))
+      (omega (arith, zeros_long (length ts) qs, zeros_long (length qs) ts)) a.small b.small
+      (ap (λ (x : ℕ). bit_xor x r) (zeros_first (length ts) qs) ∙ a.makes ∙ sym b.makes
+      ∙ ap (λ (x : ℕ). bit_xor x s) (sym (zeros_first (length qs) ts)))

@@ -11,7 +11,7 @@ use Rattle.choice.proofs.Spans.{holds, below}
 use Rattle.isa.specs.declared.Named.{Named}
 use Rattle.isa.specs.Slots.{takes}
 use Rattle.isa.specs.Words.{named_row, word_for, encode_of}
-use Rattle.isa.proofs.Laws.{decode-encode}
+use Rattle.isa.proofs.Laws.{decode_encode}
 use Rattle.machine.specs.declared.Waiting.TheVariants.{Nothing}
 use Rattle.machine.specs.declared.Registers.{Registers}
 use Rattle.machine.specs.declared.Words.{Words}
@@ -25,7 +25,7 @@ abbrev quiet : Named → Words
 quiet i = record { lines = word_for i; input = 0; pins = 0 }
 
 quiet_asks : (i : Named) → encode_of i ≡ accepted (word_for i) → Asks i (quiet i)
-quiet_asks i e = record { word = decode-encode i (word_for i) e; low = refl; stray = refl; clash = refl }
+quiet_asks i e = record { word = decode_encode i (word_for i) e; low = refl; stray = refl; clash = refl }
 
 bit_listed : (b : Bool) → encode_of (put_in_link b) ≡ accepted (word_for (put_in_link b))
 unfolding encode_of

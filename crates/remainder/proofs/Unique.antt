@@ -11,13 +11,13 @@ use lib.Seq.{ext_get_or}
 use Rattle.machine.specs.declared.Registers.{Registers}
 use Rattle.machine.specs.Seeing.{register_at}
 use Rattle.remainder.specs.Remainder.{Direction, dividend, divisor, Remainder, oriented, Holds}
-use Rattle.remainder.proofs.Multiples.{one-remainder}
+use Rattle.remainder.proofs.Multiples.{one_remainder}
 
 -- any number that is the remainder is what register k has
 pub known_remainder : (d : Direction) (k start polynomial : ℕ) (message : List Bool) (before after : Registers) (r : ℕ) → polynomial < 2 ^ 16
     → Holds d k start polynomial message before after → Remainder (divisor polynomial) (dividend start message) r → register_at after k ≡ oriented d r
 known_remainder d k start polynomial message before after r small h known =
-    h.register ∙ ap (oriented d) (one-remainder polynomial small (dividend start message) h.remainder r h.divided known)
+    h.register ∙ ap (oriented d) (one_remainder polynomial small (dividend start message) h.remainder r h.divided known)
 
 pub one_outcome : (d : Direction) (k start polynomial : ℕ) (message : List Bool) (before one other : Registers) → polynomial < 2 ^ 16
     → Holds d k start polynomial message before one → Holds d k start polynomial message before other → (one.ram ≡ other.ram) × (one.acc ≡ other.acc)
@@ -28,11 +28,11 @@ one_outcome d k start polynomial message before one other small h g =
     in_place = known_remainder d k start polynomial message before one g.remainder small h g.divided ∙ sym g.register
 
     named : (j : ℕ) → j < 32 → register_at one j ≡ register_at other j
-    named j l = by-test (eqb j k) refl
+    named j l = by_test (eqb j k) refl
       where
-        by-test : (b : Bool) → eqb j k ≡ b → register_at one j ≡ register_at other j
-        by-test true e = rw (eqb-true j k e) in_place
-        by-test false e = h.others j l (eqb-false j k e) ∙ sym (g.others j l (eqb-false j k e))
+        by_test : (b : Bool) → eqb j k ≡ b → register_at one j ≡ register_at other j
+        by_test true e = rw (eqb-true j k e) in_place
+        by_test false e = h.others j l (eqb-false j k e) ∙ sym (g.others j l (eqb-false j k e))
 
     at : (j : ℕ) → j < 32 → get_or one.ram j 0 ≡ get_or other.ram j 0
     at j l =

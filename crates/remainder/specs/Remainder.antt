@@ -68,7 +68,7 @@ abbrev pub product : ℕ → List Bool → ℕ
 product p [] = 0
 product p (b ∷ bits) = bit_xor (pick b (p * 2 ^ length bits) 0) (product p bits)
 
--- n is a multiple of p, whose degree is 16, plus r, whose degree is lower. No two numbers are such an r (`one-remainder`, proofs/Multiples)
+-- n is a multiple of p, whose degree is 16, plus r, whose degree is lower. No two numbers are such an r (`one_remainder`, proofs/Multiples)
 pub record Remainder (p n r : ℕ) : Type 0 where
   pub quotient : List Bool
   pub makes : bit_xor (product p quotient) r ≡ n

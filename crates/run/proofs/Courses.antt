@@ -59,11 +59,11 @@ runs_on m (suc budget) words i n h b =
 
 -- a cycle that was accepted, or refused
 module _ (m : Machine) (rest : Course) where
-  pub accepted-then : (answer : Tells Report) (r : Report) → answer ≡ accepted r → turn_then answer m rest ≡ step_then (record { machine = m; report = r }) rest
-  accepted-then answer r e = ap (λ (a : Tells Report). turn_then a m rest) e
+  pub accepted_then : (answer : Tells Report) (r : Report) → answer ≡ accepted r → turn_then answer m rest ≡ step_then (record { machine = m; report = r }) rest
+  accepted_then answer r e = ap (λ (a : Tells Report). turn_then a m rest) e
 
-  pub refused-then : (answer : Tells Report) (k : ℕ) → answer ≡ refused k → turn_then answer m rest ≡ closing (refused k)
-  refused-then answer k e = ap (λ (a : Tells Report). turn_then a m rest) e
+  pub refused_then : (answer : Tells Report) (k : ℕ) → answer ≡ refused k → turn_then answer m rest ≡ closing (refused k)
+  refused_then answer k e = ap (λ (a : Tells Report). turn_then a m rest) e
 
 -- no more steps than cycles, and than the budget
 turn_length : (answer : Tells Report) (m : Machine) (rest : Course) → length (turn_then answer m rest).steps ≤ suc (length rest.steps)

@@ -1,5 +1,5 @@
--- What satisfies the statement of `run`: the cycles one after another (`cycle-by-cycle`) or, where the run is refused as a whole, its start
--- (`returned`), both of any answer; every machine on the way of a started run may start (`may-go-on`), so that none of its cycles is refused with
+-- What satisfies the statement of `run`: the cycles one after another (`cycle_by_cycle`) or, where the run is refused as a whole, its start
+-- (`returned`), both of any answer; every machine on the way of a started run may start (`may_go_on`), so that none of its cycles is refused with
 -- 4 (demands, Refusals); and no two outcomes satisfy the statement (`run_unique`).
 use mathlib.Core.Path.{◌≡◌, refl, sym, ap, ◌∙◌, subst, subst⁻¹}
 use mathlib.Core.Bool.{true, false}
@@ -11,10 +11,10 @@ use lib.ListN.{length, take, drop, length-drop}
 use lib.Seq.{take-append-le, drop-append-le, drop_at}
 use borrow.Author.Tests.{ne_eqb}
 use Rattle.choice.specs.Tells.{Tells, accepted, refused, Placed}
-use Rattle.choice.proofs.Tells.{whole-one, refused-at-one, whole-refused}
+use Rattle.choice.proofs.Tells.{whole_one, refused_at_one, whole_refused}
 use Rattle.machine.specs.declared.Machine.{Machine}
 use Rattle.machine.specs.Judging.{may_start}
-use Rattle.machine.proofs.Laws.{accepted-may-start}
+use Rattle.machine.proofs.Laws.{accepted_may_start}
 use Rattle.run.specs.declared.Ending.{Ending}
 use Rattle.run.specs.declared.Ending.TheVariants.{Done, Stopped, Refused}
 use Rattle.run.specs.declared.Ran.{Ran}
@@ -24,7 +24,7 @@ use Rattle.run.specs.Runs.{start_refusal, run_of, Summary, placed, summary_of, e
 use Rattle.run.specs.Following.{machine_at, turn_at, completed_before, Ends, CycleByCycle, Returned}
 use Rattle.run.proofs.Courses.{reports_length}
 use Rattle.run.proofs.Starting.{started, refused_whole}
-use Rattle.run.proofs.Turns.{Closes, accepted-turns, report-turns, machine-turns, completed-turns, closes}
+use Rattle.run.proofs.Turns.{Closes, accepted_turns, report_turns, machine_turns, completed_turns, closes}
 
 done_stopped : done ≡ stopped → ⊥
 done_stopped e = subst (λ (f : Finish). T (elim f [ done ↦ true | stopped ↦ false ])) e tt
@@ -34,14 +34,14 @@ pub ending_one : (x y : Ending) → ending_tells x ≡ ending_tells y → x ≡ 
 ending_one Done Done e = refl
 ending_one Stopped Stopped e = refl
 ending_one (Refused j a) (Refused k b) e =
-    let both = refused-at-one j k a b e in
+    let both = refused_at_one j k a b e in
     ap (λ (n : ℕ). Refused n a) both.0 ∙ ap (Refused k) both.1
-ending_one Done Stopped e = absurd (done_stopped (whole-one done stopped e))
-ending_one Stopped Done e = absurd (done_stopped (sym (whole-one stopped done e)))
-ending_one Done (Refused k i) e = absurd (whole-refused done k i e)
-ending_one Stopped (Refused k i) e = absurd (whole-refused stopped k i e)
-ending_one (Refused k i) Done e = absurd (whole-refused done k i (sym e))
-ending_one (Refused k i) Stopped e = absurd (whole-refused stopped k i (sym e))
+ending_one Done Stopped e = absurd (done_stopped (whole_one done stopped e))
+ending_one Stopped Done e = absurd (done_stopped (sym (whole_one stopped done e)))
+ending_one Done (Refused k i) e = absurd (whole_refused done k i e)
+ending_one Stopped (Refused k i) e = absurd (whole_refused stopped k i e)
+ending_one (Refused k i) Done e = absurd (whole_refused done k i (sym e))
+ending_one (Refused k i) Stopped e = absurd (whole_refused stopped k i (sym e))
 
 pub ran_one : (r s : Ran) → ran_tells r ≡ ran_tells s → r ≡ s
 ran_one r s e =
@@ -78,8 +78,8 @@ module _ (m : Machine) (words : List ℕ) (budget : ℕ) (before : List ℕ) (r 
   long = reports_length course.steps ∙ ap (λ (k : ℕ). words_per_report * k) (sym count)
 
   -- the words of report k stand in what is written
-  report-at : (k : ℕ) → k < r.accepted → take words_per_report (drop (words_per_report * k) after) ≡ take words_per_report (drop (words_per_report * k) (reports_of course.steps))
-  report-at k h =
+  report_at : (k : ℕ) → k < r.accepted → take words_per_report (drop (words_per_report * k) after) ≡ take words_per_report (drop (words_per_report * k) (reports_of course.steps))
+  report_at k h =
       let all = reports_of course.steps in
       let rest = drop (length all) before in
       let inside : words_per_report * k ≤ length all = omega (arith, long) in
@@ -89,18 +89,18 @@ module _ (m : Machine) (words : List ℕ) (budget : ℕ) (before : List ℕ) (r 
       ∙ take-append-le words_per_report (drop (words_per_report * k) all) rest room
 
   -- a run that is started is its cycles one after another
-  pub cycle-by-cycle : whole ≡ 0 → CycleByCycle m words budget r before after
-  cycle-by-cycle z =
+  pub cycle_by_cycle : whole ≡ 0 → CycleByCycle m words budget r before after
+  cycle_by_cycle z =
       let same : course ≡ run_from m budget (cycles_from words 0 cycles) = started m words budget (length before) z in
       let counted : r.accepted ≡ length (run_from m budget (cycles_from words 0 cycles)).steps = count ∙ ap (λ (c : Course). length c.steps) same in
       let said : ran_tells r ≡ summary_of m (run_from m budget (cycles_from words 0 cycles)) = p.answer ∙ ap (summary_of m) same in
       record {
-        accepted = λ k h. accepted-turns m words cycles budget k (subst (λ (x : ℕ). k < x) counted h);
+        accepted = λ k h. accepted_turns m words cycles budget k (subst (λ (x : ℕ). k < x) counted h);
         reports = λ k h.
-            report-at k h ∙ ap (λ (c : Course). take words_per_report (drop (words_per_report * k) (reports_of c.steps))) same
-            ∙ report-turns m words cycles budget k (subst (λ (x : ℕ). k < x) counted h);
-        machine = ap (λ (s : Summary). s.machine) said ∙ machine-turns m words cycles budget ∙ ap (machine_at m words) (sym counted);
-        completed = ap (λ (s : Summary). s.completed) said ∙ completed-turns m words cycles budget ∙ ap (completed_before m words) (sym counted);
+            report_at k h ∙ ap (λ (c : Course). take words_per_report (drop (words_per_report * k) (reports_of c.steps))) same
+            ∙ report_turns m words cycles budget k (subst (λ (x : ℕ). k < x) counted h);
+        machine = ap (λ (s : Summary). s.machine) said ∙ machine_turns m words cycles budget ∙ ap (machine_at m words) (sym counted);
+        completed = ap (λ (s : Summary). s.completed) said ∙ completed_turns m words cycles budget ∙ ap (completed_before m words) (sym counted);
         ends =
             subst⁻¹ (λ (k : ℕ). Ends m words cycles budget k r.ending) counted
             (ends_as m words cycles budget _ (run_from m budget (cycles_from words 0 cycles)).close r.ending (ap (λ (s : Summary). s.ending) said) (closes m words cycles budget));
@@ -125,9 +125,9 @@ module _ (m : Machine) (words : List ℕ) (budget : ℕ) (before : List ℕ) (r 
 
 -- while no cycle is refused, each machine on the way may start
 module _ (m : Machine) (words : List ℕ) (starts : may_start m.registers.waiting ≡ true) where
-  pub may-go-on : (k : ℕ) → ((l : ℕ) → l < k → (turn_at m words l).answer.number ≡ 0) → may_start (machine_at m words k).registers.waiting ≡ true
-  may-go-on zero before = starts
-  may-go-on (suc k) before = accepted-may-start (machine_at m words k) (cycle_at words k) (before k (omega arith))
+  pub may_go_on : (k : ℕ) → ((l : ℕ) → l < k → (turn_at m words l).answer.number ≡ 0) → may_start (machine_at m words k).registers.waiting ≡ true
+  may_go_on zero before = starts
+  may_go_on (suc k) before = accepted_may_start (machine_at m words k) (cycle_at words k) (before k (omega arith))
 
 -- no two outcomes satisfy the statement of `run`: the answers are the same, and the lent reports after the call
 pub run_unique : (m : Machine) (c : Course) (before : List ℕ) (r s : Ran) (after after' : List ℕ)

@@ -19,7 +19,7 @@ use Rattle.run.specs.Splitting.{words_per_cycle, cycle_at, cycles_from, cycles_i
 use Rattle.run.specs.Courses.{Finish, Course, turn_then, run_from}
 use Rattle.run.specs.Runs.{most_cycles, start_refusal, run_of, Summary, placed, summary_of, ran_tells, Gives}
 use Rattle.run.specs.Leading.{Leads, DoneAt}
-use Rattle.run.proofs.Starting.{clear-start, started}
+use Rattle.run.proofs.Starting.{clear_start, started}
 use Rattle.run.proofs.Laws.{ending_one}
 
 -- one accepted cycle before a course
@@ -74,7 +74,7 @@ leads_answer m n cycles budget before after r idle leads few fits enough gives =
     let words = cycle_words cycles in
     let many = cycles_in_lem cycles in
     let clear : start_refusal m words (length before) ≡ 0 =
-    clear-start m.registers.waiting (length words) (length before) (omega (arith, words_length cycles)) (omega arith) (omega arith) (ap may_start idle) in
+    clear_start m.registers.waiting (length words) (length before) (omega (arith, words_length cycles)) (omega arith) (omega arith) (ap may_start idle) in
     let same : run_of m words budget (length before) ≡ run_from m budget cycles =
     started m words budget (length before) clear ∙ ap (run_from m budget) (words_split cycles) in
     let told : ran_tells r ≡ summary_of m (run_from m budget cycles) = gives.answer ∙ ap (summary_of m) same in

@@ -12,7 +12,7 @@ use Rattle.machine.specs.declared.Report.{Report}
 use Rattle.machine.specs.declared.Core.{Core}
 use Rattle.machine.specs.declared.Words.{Words}
 use Rattle.machine.specs.Stepping.{machine_from, core_of}
-use Rattle.machine.proofs.Laws.{refused-unchanged}
+use Rattle.machine.proofs.Laws.{refused_unchanged}
 use Rattle.machine.specs.Cycles.{Turned, cycle_of, completions}
 use Rattle.run.specs.declared.Ending.{Ending}
 use Rattle.run.specs.declared.Ending.TheVariants.{Done, Stopped, Refused}
@@ -20,8 +20,8 @@ use Rattle.run.specs.declared.Ran.{Ran}
 use Rattle.run.specs.Splitting.{cycle_at, cycles_from, report_words, words_per_report}
 use Rattle.run.specs.Courses.{Step, Finish, done, stopped, Course, closing, turn_then, run_from, machine_after, completed_in, reports_of, preceded}
 use Rattle.run.specs.Runs.{Summary, placed, summary_of, ending_tells, ran_tells, Gives}
-use Rattle.run.proofs.Stored.{take-stored, drop-stored}
-use Rattle.run.proofs.Courses.{preceded_more, completions_le, machine_after_lem, completed_in_lem, reports_of_lem, reports_length, runs_on, accepted-then, refused-then}
+use Rattle.run.proofs.Stored.{take_stored, drop_stored}
+use Rattle.run.proofs.Courses.{preceded_more, completions_le, machine_after_lem, completed_in_lem, reports_of_lem, reports_length, runs_on, accepted_then, refused_then}
 
 -- before cycle i: the steps so far, what was counted and written of them, and the run still to come
 pub record Before (words : List ℕ) (budget : ℕ) (start : Machine) (reports₀ : List ℕ) (cycles : ℕ) (reports : List ℕ) (state : Machine) (left completed i : ℕ) : Type 0 where
@@ -115,9 +115,9 @@ module _ {words : List ℕ} {budget : ℕ} {start : Machine} {reports₀ : List 
     pub refuses : (k : ℕ) → x.answer ≡ refused k
         → Gives start whole (record { machine = x.machine; ending = Refused k i; accepted = i; completed = completed }) reports₀ reports
     refuses k e =
-        let kept : state ≡ x.machine = sym (ap (λ (x : Turned). x.machine) p ∙ refused-unchanged state (cycle_at words i) k (ap (λ (x : Turned). x.answer) (sym p) ∙ e)) in
+        let kept : state ≡ x.machine = sym (ap (λ (x : Turned). x.machine) p ∙ refused_unchanged state (cycle_at words i) k (ap (λ (x : Turned). x.answer) (sym p) ∙ e)) in
         subst (λ (m : Machine). Gives start whole (record { machine = m; ending = Refused k i; accepted = i; completed = completed }) reports₀ reports) kept
-        (closes (refused k) (Refused k i) refl (answered ∙ ap (preceded b.past) (refused-then x.machine next x.answer k e)))
+        (closes (refused k) (Refused k i) refl (answered ∙ ap (preceded b.past) (refused_then x.machine next x.answer k e)))
 
     pub again : (r : Report) (reports' : List ℕ) → x.answer ≡ accepted r → reports' ≡ sets reports (words_per_report * i) (report_words r)
         → Before words budget start reports₀ cycles reports' x.machine (left - 1) (completed + completions r.completed) (i + 1)
@@ -133,15 +133,15 @@ module _ {words : List ℕ} {budget : ℕ} {start : Machine} {reports₀ : List 
       few = omega (arith, completions_le r.completed, b.few);
       reached = machine_after_lem start b.past (step ∷ []);
       filled =
-          rw q (take-stored reports (report_words r) (words_per_report * i) (words_per_report * (i + 1)) (omega arith) (omega (arith, b.room)))
+          rw q (take_stored reports (report_words r) (words_per_report * i) (words_per_report * (i + 1)) (omega arith) (omega (arith, b.room)))
           ∙ ap (λ (l : List ℕ). l ++ report_words r) b.filled
           ∙ sym (reports_of_lem b.past (step ∷ []) ∙ ap (λ (l : List ℕ). reports_of b.past ++ l) (append-nil (report_words r)));
       rest =
-          rw q (drop-stored reports (report_words r) (words_per_report * i) (words_per_report * (i + 1)) (omega arith) (omega (arith, b.room)))
+          rw q (drop_stored reports (report_words r) (words_per_report * i) (words_per_report * (i + 1)) (omega arith) (omega (arith, b.room)))
           ∙ further reports ∙ ap (drop words_per_report) b.rest ∙ sym (further reports₀);
       course =
           answered
-          ∙ ap (preceded b.past) (accepted-then x.machine next x.answer r e)
+          ∙ ap (preceded b.past) (accepted_then x.machine next x.answer r e)
           ∙ preceded_more b.past (step ∷ []) next;
     }
       where

@@ -1,5 +1,5 @@
 -- The refusals of a whole run: what holds where none is given, each number exactly when, and what then becomes of the run.
--- The laws, in this order: `clear-start`, `start-one`, `start-two`, `start-three`, `start-four`.
+-- The laws, in this order: `clear_start`, `start_one`, `start_two`, `start_three`, `start_four`.
 use mathlib.Core.Path.{◌≡◌}
 use mathlib.Core.Bool.{Bool, true, false, not}
 use mathlib.Core.List.{List, [], ◌∷◌}
@@ -46,33 +46,33 @@ module _ (waiting : Waiting) (words room : ℕ) where
       (omega (arith, even), ltb-false most_cycles (cycles_in words) two.0, ltb-false room (words_per_report * cycles_in words) three.0)
 
   -- and a word that waits may do so
-  pub may-begin : given ≡ 0 → may_start waiting ≡ true
-  may-begin e =
+  pub may_begin : given ≡ 0 → may_start waiting ≡ true
+  may_begin e =
       let one = cleared 1 uneven (check 2 many ∷ check 3 short ∷ check 4 unfit ∷ []) (positive 1 tt) e in
       let two = cleared 2 many (check 3 short ∷ check 4 unfit ∷ []) (positive 2 tt) one.1 in
       let three = cleared 3 short (check 4 unfit ∷ []) (positive 3 tt) two.1 in
       not-false (may_start waiting) (cleared 4 unfit [] (positive 4 tt) three.1).0
 
   -- and where all that holds, none is given
-  pub clear-start : words % words_per_cycle ≡ 0 → cycles_in words ≤ most_cycles → words_per_report * cycles_in words ≤ room → may_start waiting ≡ true → given ≡ 0
-  clear-start even few fits may =
+  pub clear_start : words % words_per_cycle ≡ 0 → cycles_in words ≤ most_cycles → words_per_report * cycles_in words ≤ room → may_start waiting ≡ true → given ≡ 0
+  clear_start even few fits may =
       rw (eq-eqb (words % words_per_cycle) 0 even, le-ltb most_cycles (cycles_in words) few, le-ltb room (words_per_report * cycles_in words) fits, may)
 
   -- 1: the words are no multiple of 3
-  pub start-one : (given ≡ 1) ↔ (Unit {0} × (uneven ≡ true))
-  start-one = exactly 1 uneven (check 2 many ∷ check 3 short ∷ check 4 unfit ∷ []) (positive 1 tt) tt [] tt
+  pub start_one : (given ≡ 1) ↔ (Unit {0} × (uneven ≡ true))
+  start_one = exactly 1 uneven (check 2 many ∷ check 3 short ∷ check 4 unfit ∷ []) (positive 1 tt) tt [] tt
 
   -- 2: over 4,096 cycles
-  pub start-two : (given ≡ 2) ↔ (T (clear (check 1 uneven ∷ [])) × (many ≡ true))
-  start-two = exactly 2 many (check 3 short ∷ check 4 unfit ∷ []) (positive 2 tt) tt (check 1 uneven ∷ []) tt
+  pub start_two : (given ≡ 2) ↔ (T (clear (check 1 uneven ∷ [])) × (many ≡ true))
+  start_two = exactly 2 many (check 3 short ∷ check 4 unfit ∷ []) (positive 2 tt) tt (check 1 uneven ∷ []) tt
 
   -- 3: the room is too short for the reports of the whole input
-  pub start-three : (given ≡ 3) ↔ (T (clear (check 1 uneven ∷ check 2 many ∷ [])) × (short ≡ true))
-  start-three = exactly 3 short (check 4 unfit ∷ []) (positive 3 tt) tt (check 1 uneven ∷ check 2 many ∷ []) tt
+  pub start_three : (given ≡ 3) ↔ (T (clear (check 1 uneven ∷ check 2 many ∷ [])) × (short ≡ true))
+  start_three = exactly 3 short (check 4 unfit ∷ []) (positive 3 tt) tt (check 1 uneven ∷ check 2 many ∷ []) tt
 
   -- 4: a word waits that is not an accepted one with an I operand
-  pub start-four : (given ≡ 4) ↔ (T (clear (check 1 uneven ∷ check 2 many ∷ check 3 short ∷ [])) × (unfit ≡ true))
-  start-four = exactly 4 unfit [] (positive 4 tt) tt (check 1 uneven ∷ check 2 many ∷ check 3 short ∷ []) tt
+  pub start_four : (given ≡ 4) ↔ (T (clear (check 1 uneven ∷ check 2 many ∷ check 3 short ∷ [])) × (unfit ≡ true))
+  start_four = exactly 4 unfit [] (positive 4 tt) tt (check 1 uneven ∷ check 2 many ∷ check 3 short ∷ []) tt
 
 -- a run that is started, and one that is refused as a whole
 pub started : (m : Machine) (words : List ℕ) (budget room : ℕ) → start_refusal m words room ≡ 0 → run_of m words budget room ≡ run_from m budget (cycles_of words)

@@ -10,10 +10,10 @@ module _ (l vs : List ℕ) (at n : ℕ) (e : at + length vs ≡ n) (h : n ≤ le
   before : length (take at l ++ vs) ≡ n
   before = length-append (take at l) vs ∙ rw (length-take-le at l (omega arith)) e
 
-  pub take-stored : take n (sets l at vs) ≡ take at l ++ vs
-  take-stored = rw (sets-eq vs l at (omega arith)) (take_at (take at l ++ vs) (drop (at + length vs) l) n before)
+  pub take_stored : take n (sets l at vs) ≡ take at l ++ vs
+  take_stored = rw (sets-eq vs l at (omega arith)) (take_at (take at l ++ vs) (drop (at + length vs) l) n before)
 
-  pub drop-stored : drop n (sets l at vs) ≡ drop n l
-  drop-stored =
+  pub drop_stored : drop n (sets l at vs) ≡ drop n l
+  drop_stored =
       rw (sets-eq vs l at (omega arith))
       (drop_at (take at l ++ vs) (drop (at + length vs) l) n before ∙ ap (λ (k : ℕ). drop k l) e)

@@ -17,37 +17,37 @@ use Rattle.text.specs.Taking.{one_more, passed, take_from, reader}
 -- b is a hex digit that is worth d
 module _ (b d : ℕ) (value : digit_value b ≡ d) (small : d < 16) where
   other : (k : ℕ) → digit_value k ≡ 16 → eqb b k ≡ false
-  other k e = by-test (eqb b k) refl
+  other k e = by_test (eqb b k) refl
     where
-      by-test : (t : Bool) → eqb b k ≡ t → t ≡ false
-      by-test true q =
+      by_test : (t : Bool) → eqb b k ≡ t → t ≡ false
+      by_test true q =
           let same : b ≡ k = eqb-true b k q in
           let worth : digit_value b ≡ 16 = rw same e in
           absurd (omega (arith, sym value ∙ worth))
-      by-test false q = refl
+      by_test false q = refl
 
-  digit-kind : kind_of b ≡ Kind.Digit d
+  digit_kind : kind_of b ≡ Kind.Digit d
   unfolding kind_of digit_value
-  digit-kind = rw (other 10 refl, other 35 refl, other 32 refl, other 9 refl, other 13 refl, value, lt-ltb d 16 small)
+  digit_kind = rw (other 10 refl, other 35 refl, other 32 refl, other 9 refl, other 13 refl, value, lt-ltb d 16 small)
 
-  no-feed : eqb b line_feed ≡ false
+  no_feed : eqb b line_feed ≡ false
   unfolding digit_value
-  no-feed = other line_feed refl
+  no_feed = other line_feed refl
 
   begins : (i l c w k f : ℕ) (rest words : List ℕ) → w < words_per_line
       → take_from i (reader l c w Between k f) (b ∷ rest) words ≡ take_from (suc i) (reader l (one_more c) w (Within 1 d) k f) rest words
   unfolding take_from move_of passed
-  begins i l c w k f rest words h = rw (no-feed, digit-kind, lt-ltb w words_per_line h)
+  begins i l c w k f rest words h = rw (no_feed, digit_kind, lt-ltb w words_per_line h)
 
   goes_on_lem : (i l c w k n v f : ℕ) (rest words : List ℕ) → n < 3
       → take_from i (reader l c w (Within n v) k f) (b ∷ rest) words ≡ take_from (suc i) (reader l (one_more c) w (Within (n + 1) (with_digit v d)) k f) rest words
   unfolding take_from move_of passed
-  goes_on_lem i l c w k n v f rest words h = rw (no-feed, digit-kind, lt-ltb n 3 h)
+  goes_on_lem i l c w k n v f rest words h = rw (no_feed, digit_kind, lt-ltb n 3 h)
 
   ends : (i l c w k v f : ℕ) (rest words : List ℕ) → w < words_per_line → k < length words
       → take_from i (reader l c w (Within 3 v) k f) (b ∷ rest) words ≡ take_from (suc i) (reader l (one_more c) (w + 1) After (k + 1) f) rest (set words k (with_digit v d))
   unfolding take_from move_of passed
-  ends i l c w k v f rest words h g = rw (no-feed, digit-kind, lt-ltb w words_per_line h, lt-ltb k (length words) g)
+  ends i l c w k v f rest words h g = rw (no_feed, digit_kind, lt-ltb w words_per_line h, lt-ltb k (length words) g)
 
 -- a value by its last digit and the others
 last_digit_lem : (y : ℕ) → y < 65536 → with_digit (y / 16) (y % 16) ≡ y

@@ -17,11 +17,11 @@ use Rattle.text.specs.declared.Stop.{Stop}
 use Rattle.text.specs.Taking.{passed, kept_word, with_word, with_fault, fault_at, Took, stops_at, move_at, met_by, take_from}
 
 pub length_kept : (at x : ℕ) (words : List ℕ) → length (kept_word at x words) ≡ length words
-length_kept at x words = by-test (ltb at (length words))
+length_kept at x words = by_test (ltb at (length words))
   where
-    by-test : (b : Bool) → length (pick b (set words at x) words) ≡ length words
-    by-test true = length-set words at x
-    by-test false = refl
+    by_test : (b : Bool) → length (pick b (set words at x) words) ≡ length words
+    by_test true = length-set words at x
+    by_test false = refl
 
 module _ (text : List ℕ) (i : ℕ) (h : i < length text) (s : Reader) (words : List ℕ) where
   abbrev b : ℕ
@@ -48,19 +48,19 @@ module _ (text : List ℕ) (i : ℕ) (h : i < length text) (s : Reader) (words :
     turn : (x : Met) → m.met ≡ x → met_by x nothing word fault ≡ take_from i s (drop i text) words
     turn x q = sym (opened ∙ ap (λ (y : Met). met_by y nothing word fault) (sym (ap (λ (k : Move). k.met) em) ∙ q))
 
-    is-next : n ≡ next
-    is-next = en ∙ ap (λ (k : Move). passed s k b) em
+    is_next : n ≡ next
+    is_next = en ∙ ap (λ (k : Move). passed s k b) em
 
-    pub turn-nothing : m.met ≡ Met.Nothing → take_from (suc i) n (drop (suc i) text) words ≡ take_from i s (drop i text) words
-    turn-nothing q = rw is-next (turn Met.Nothing q)
+    pub turn_nothing : m.met ≡ Met.Nothing → take_from (suc i) n (drop (suc i) text) words ≡ take_from i s (drop i text) words
+    turn_nothing q = rw is_next (turn Met.Nothing q)
 
-    pub turn-word : (x : ℕ) (after : List ℕ) (r : Reader) → m.met ≡ Met.Word x → after ≡ kept_word s.found x words → r ≡ with_word n (length after)
+    pub turn_word : (x : ℕ) (after : List ℕ) (r : Reader) → m.met ≡ Met.Word x → after ≡ kept_word s.found x words → r ≡ with_word n (length after)
         → take_from (suc i) r (drop (suc i) text) after ≡ take_from i s (drop i text) words
-    turn-word x after r q ea er = rw (er, ea, length_kept s.found x words, is-next) (turn (Met.Word x) q)
+    turn_word x after r q ea er = rw (er, ea, length_kept s.found x words, is_next) (turn (Met.Word x) q)
 
-    pub turn-fault : (e : Expected) (f : Fault) (r : Reader) → m.met ≡ Met.Fault e → f ≡ fault_at s e → r ≡ with_fault n
+    pub turn_fault : (e : Expected) (f : Fault) (r : Reader) → m.met ≡ Met.Fault e → f ≡ fault_at s e → r ≡ with_fault n
         → stops_at r (i + 1) (Stop.Bad f) words ≡ take_from i s (drop i text) words
-    turn-fault e f r q ef er = rw (add-one, er, ef, is-next) (turn (Met.Fault e) q)
+    turn_fault e f r q ef er = rw (add-one, er, ef, is_next) (turn (Met.Fault e) q)
 
 pub turn_end : (text : List ℕ) (i : ℕ) (s : Reader) (words : List ℕ) → length text ≤ i → stops_at s i Stop.TextEnd words ≡ take_from i s (drop i text) words
 unfolding take_from

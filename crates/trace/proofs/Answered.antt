@@ -9,7 +9,7 @@ use lib.ListN.{length, drop}
 use borrow.Author.Tests.{eqb-true, eq-eqb, ne_eqb, ltb-false, lt-ltb, le-ltb, not-false}
 use Rattle.choice.specs.Checks.{check, refusal}
 use Rattle.choice.proofs.Checks.{positive, cleared}
-use Rattle.choice.proofs.Tells.{whole-one}
+use Rattle.choice.proofs.Tells.{whole_one}
 use Rattle.choice.specs.Tells.{Placed, accepted_whole, refused_at}
 use Rattle.trace.specs.declared.Filled.TheVariants.{Accepted, Refused}
 use Rattle.trace.specs.Layout.{block_bytes}
@@ -18,7 +18,7 @@ use Rattle.run.specs.Runs.{most_cycles}
 use Rattle.trace.specs.Limits.{blocks_for, most_blocks}
 use Rattle.trace.specs.Reading.{trace_blocks, block_refusals, after_blocks, record_count, whole_checks, end_checks, read_end, read_of}
 use Rattle.trace.specs.Writing.{write_checks, write_of}
-use Rattle.trace.proofs.Judged.{all_sound, one-refused, sound_first}
+use Rattle.trace.proofs.Judged.{all_sound, one_refused, sound_first}
 
 -- an answer and the lent output, by what the definition tells
 module _ {answer : Placed ℕ} {made before : List ℕ} where
@@ -33,49 +33,49 @@ abbrev pub judgement : ℕ → List ℕ → Placed ℕ
 judgement w t = after_blocks 0 (block_refusals w 0 (trace_blocks t)) (accepted_whole (record_count (trace_blocks t)))
 
 module _ (w : ℕ) (t : List ℕ) (room : ℕ) where
-  pub read-11 : (length t % block_bytes ≡ 0 → ⊥) → refused_at 11 0 ≡ read_of w t room
+  pub read_11 : (length t % block_bytes ≡ 0 → ⊥) → refused_at 11 0 ≡ read_of w t room
   unfolding read_of
-  read-11 n = rw (ne_eqb (length t % block_bytes) 0 n)
+  read_11 n = rw (ne_eqb (length t % block_bytes) 0 n)
 
   module _ (even : length t % block_bytes ≡ 0) where
-    pub read-many : most_blocks w < length t / block_bytes → refused_at 2 0 ≡ read_of w t room
+    pub read_many : most_blocks w < length t / block_bytes → refused_at 2 0 ≡ read_of w t room
     unfolding read_of
-    read-many h = rw (eq-eqb (length t % block_bytes) 0 even, lt-ltb (most_blocks w) (length t / block_bytes) h)
+    read_many h = rw (eq-eqb (length t % block_bytes) 0 even, lt-ltb (most_blocks w) (length t / block_bytes) h)
 
     module _ (few : length t / block_bytes ≤ most_blocks w) where
-      blocks-decide : read_of w t room ≡ after_blocks 0 (block_refusals w 0 (trace_blocks t)) (read_end w (record_count (trace_blocks t)) room)
+      blocks_decide : read_of w t room ≡ after_blocks 0 (block_refusals w 0 (trace_blocks t)) (read_end w (record_count (trace_blocks t)) room)
       unfolding read_of
-      blocks-decide = rw (eq-eqb (length t % block_bytes) 0 even, le-ltb (most_blocks w) (length t / block_bytes) few)
+      blocks_decide = rw (eq-eqb (length t % block_bytes) 0 even, le-ltb (most_blocks w) (length t / block_bytes) few)
 
       pub read_refused : (k i : ℕ) → judgement w t ≡ refused_at k i → refused_at k i ≡ read_of w t room
       read_refused k i e =
-          sym (blocks-decide ∙ one-refused (read_end w (record_count (trace_blocks t)) room) (block_refusals w 0 (trace_blocks t)) 0 (record_count (trace_blocks t)) k i e)
+          sym (blocks_decide ∙ one_refused (read_end w (record_count (trace_blocks t)) room) (block_refusals w 0 (trace_blocks t)) 0 (record_count (trace_blocks t)) k i e)
 
       module _ (n : ℕ) (sound : judgement w t ≡ accepted_whole n) where
-        pub end-decides : read_of w t room ≡ read_end w n room
-        end-decides =
+        pub end_decides : read_of w t room ≡ read_end w n room
+        end_decides =
             let all = all_sound (block_refusals w 0 (trace_blocks t)) 0 n (accepted_whole (record_count (trace_blocks t))) sound in
-            blocks-decide ∙ all.1 (read_end w (record_count (trace_blocks t)) room) ∙ ap (λ (x : ℕ). read_end w x room) (whole-one (record_count (trace_blocks t)) n all.0)
+            blocks_decide ∙ all.1 (read_end w (record_count (trace_blocks t)) room) ∙ ap (λ (x : ℕ). read_end w x room) (whole_one (record_count (trace_blocks t)) n all.0)
 
         pub read-over : most_cycles < n → refused_at 2 0 ≡ read_of w t room
-        read-over h = rw (end-decides, lt-ltb most_cycles n h)
+        read-over h = rw (end_decides, lt-ltb most_cycles n h)
 
         module _ (h : n ≤ most_cycles) where
           pub read_short : room < w * n → refused_at 3 0 ≡ read_of w t room
-          read_short g = rw (end-decides, le-ltb most_cycles n h, lt-ltb room (w * n) g)
+          read_short g = rw (end_decides, le-ltb most_cycles n h, lt-ltb room (w * n) g)
 
           pub read_done : w * n ≤ room → accepted_whole (w * n) ≡ read_of w t room
-          read_done g = rw (end-decides, le-ltb most_cycles n h, le-ltb room (w * n) g)
+          read_done g = rw (end_decides, le-ltb most_cycles n h, le-ltb room (w * n) g)
 
 module _ (w n room : ℕ) where
-  pub write-1 : (n % w ≡ 0 → ⊥) → refused_at 1 0 ≡ write_of w n room
+  pub write_1 : (n % w ≡ 0 → ⊥) → refused_at 1 0 ≡ write_of w n room
   unfolding write_of
-  write-1 h = rw (ne_eqb (n % w) 0 h)
+  write_1 h = rw (ne_eqb (n % w) 0 h)
 
   module _ (whole : n % w ≡ 0) where
-    pub write-2 : most_cycles < n / w → refused_at 2 0 ≡ write_of w n room
+    pub write_2 : most_cycles < n / w → refused_at 2 0 ≡ write_of w n room
     unfolding write_of
-    write-2 h = rw (eq-eqb (n % w) 0 whole, lt-ltb most_cycles (n / w) h)
+    write_2 h = rw (eq-eqb (n % w) 0 whole, lt-ltb most_cycles (n / w) h)
 
     module _ (few : n / w ≤ most_cycles) where
       pub write-3 : room < blocks_for n * block_bytes → refused_at 3 0 ≡ write_of w n room
@@ -95,7 +95,7 @@ write_says w n room y e =
     let one = cleared 1 (not (eqb (n % w) 0)) (check 2 (ltb most_cycles (n / w)) ∷ check 3 (ltb room (blocks_for n * block_bytes)) ∷ []) (positive 1 tt) end.0 in
     let two = cleared 2 (ltb most_cycles (n / w)) (check 3 (ltb room (blocks_for n * block_bytes)) ∷ []) (positive 2 tt) one.1 in
     let three = cleared 3 (ltb room (blocks_for n * block_bytes)) [] (positive 3 tt) two.1 in
-    (eqb-true (n % w) 0 (not-false (eqb (n % w) 0) one.0), ltb-false most_cycles (n / w) two.0, ltb-false room (blocks_for n * block_bytes) three.0, whole-one (blocks_for n * block_bytes) y end.1)
+    (eqb-true (n % w) 0 (not-false (eqb (n % w) 0) one.0), ltb-false most_cycles (n / w) two.0, ltb-false room (blocks_for n * block_bytes) three.0, whole_one (blocks_for n * block_bytes) y end.1)
 
 pub record ReadSays (w : ℕ) (t : List ℕ) (room y : ℕ) : Type 0 where
   pub even : length t % block_bytes ≡ 0
@@ -123,5 +123,5 @@ read_says w t room y e =
       sound = all.1;
       few = ltb-false most_cycles n two.0;
       room_enough = ltb-false room (w * n) three.0;
-      words = whole-one (w * n) y end.1;
+      words = whole_one (w * n) y end.1;
     }

@@ -16,7 +16,7 @@ use Rattle.trace.specs.Reading.{blocks_of, block_refusals, after_blocks, record_
 use Rattle.trace.specs.Writing.{blocks_from}
 use Rattle.trace.proofs.Words.{bytes_take, bytes_drop, bytes_words, all_zeros, none_left}
 use Rattle.trace.proofs.Parts.{length_blocks}
-use Rattle.trace.proofs.Sound.{count_fits, count_good_says, sound-says, sound-shape, sound-count, records_long}
+use Rattle.trace.proofs.Sound.{count_fits, count_good_says, sound_says, sound_shape, sound_count, records_long}
 use Rattle.trace.proofs.Judged.{sound_first}
 
 take_4 : (l : List ℕ) → 4 ≤ length l → take 4 l ≡ get_or l 0 0 ∷ get_or l 1 0 ∷ get_or l 2 0 ∷ get_or l 3 0 ∷ []
@@ -48,35 +48,35 @@ module _ (w k left : ℕ) (block : List ℕ) (pos : 0 < w) (long : length block 
   words = record_words w block
 
   fits : w * count ≤ 252
-  fits = count_fits w count (sound-count w k left block sound)
+  fits = count_fits w count (sound_count w k left block sound)
 
   abbrev area : List ℕ
   area = part 4 (records_end w count) block
 
-  area-long : length area ≡ 2 * (w * count)
-  area-long = simp (length-take, length-drop) (omega (arith, fits))
+  area_long : length area ≡ 2 * (w * count)
+  area_long = simp (length-take, length-drop) (omega (arith, fits))
 
   words_long : length words ≡ w * count
   words_long = records_long w block long fits
 
-  head-back : head_of w k (length words) ≡ take 4 block
+  head_back : head_of w k (length words) ≡ take 4 block
   unfolding head_of
-  head-back =
-      let n : word_at block 0 ≡ k = (sound-says w k left block sound).1 in
+  head_back =
+      let n : word_at block 0 ≡ k = (sound_says w k left block sound).1 in
       let first : get_or block 0 0 < 256 = bytes 0 in
       let a : k % 256 ≡ get_or block 0 0 = omega arith in
       let b : k / 256 ≡ get_or block 1 0 = omega arith in
       let c : length words / w ≡ get_or block 2 0 = rw words_long (mul-div_cancel_left count pos) in
-      rw (take_4 block (omega arith), a, b, c, (sound-shape w k left block sound).1)
+      rw (take_4 block (omega arith), a, b, c, (sound_shape w k left block sound).1)
 
-  area-back : bytes_of words ≡ area
+  area_back : bytes_of words ≡ area
   unfolding record_words
-  area-back = bytes_words area (omega (arith, area-long)) (bytes_take (records_end w count - 4) (drop 4 block) (bytes_drop 4 block bytes))
+  area_back = bytes_words area (omega (arith, area_long)) (bytes_take (records_end w count - 4) (drop 4 block) (bytes_drop 4 block bytes))
 
-  filling-back : replicate (506 - 2 * length words) 0 ≡ part (records_end w count) 510 block
-  filling-back =
+  filling_back : replicate (506 - 2 * length words) 0 ≡ part (records_end w count) 510 block
+  filling_back =
       let l : length (part (records_end w count) 510 block) ≡ 506 - 2 * length words = simp (length-take, length-drop) (omega (arith, fits, words_long)) in
-      rw (← l) (sym (all_zeros (part (records_end w count) 510 block) (sound-shape w k left block sound).2))
+      rw (← l) (sym (all_zeros (part (records_end w count) 510 block) (sound_shape w k left block sound).2))
 
   body_back : body_of w k words ≡ take 510 block
   unfolding body_of
@@ -86,12 +86,12 @@ module _ (w k left : ℕ) (block : List ℕ) (pos : 0 < w) (long : length block 
       let p : take (records_end w count) block ≡ take 4 block ++ area = ap (λ (x : ℕ). take x block) e ∙ take-add 4 (records_end w count - 4) block in
       let q : take 510 block ≡ take (records_end w count) block ++ part (records_end w count) 510 block =
       ap (λ (x : ℕ). take x block) f ∙ take-add (records_end w count) (510 - records_end w count) block in
-      rw (head-back, area-back, filling-back, ← p) (sym q)
+      rw (head_back, area_back, filling_back, ← p) (sym q)
 
   pub block_back : block_of w k words ≡ block
   unfolding sealed
   block_back =
-      let held : check_of (part 0 510 block) ≡ check_held block = good_held block (sound-says w k left block sound).0 in
+      let held : check_of (part 0 510 block) ≡ check_held block = good_held block (sound_says w k left block sound).0 in
       let last : get_or block 511 0 < 256 = bytes 511 in
       let high : check_of (take 510 block) / 256 ≡ get_or block 510 0 = held_high block _ held last in
       let low : check_of (take 510 block) % 256 ≡ get_or block 511 0 = held_low block _ held last in
@@ -117,9 +117,9 @@ module _ (w : ℕ) (pos : 0 < w) (full : w * full_count w ≡ 252) where
     pub most : length (all_record_words w (blocks_of m t)) ≤ m * 252
     pub least : m * 252 < length (all_record_words w (blocks_of m t)) + 252
 
-  least-with : (left x y : ℕ) → 0 < x → ((left ≡ 0 → ⊥) → x ≡ 252) → left * 252 < y + 252 → suc left * 252 < x + y + 252
-  least-with zero x y h g f = omega arith
-  least-with (suc left) x y h g f =
+  least_with : (left x y : ℕ) → 0 < x → ((left ≡ 0 → ⊥) → x ≡ 252) → left * 252 < y + 252 → suc left * 252 < x + y + 252
+  least_with zero x y h g f = omega arith
+  least_with (suc left) x y h g f =
       let q : x ≡ 252 = g (λ r. omega arith) in
       omega arith
 
@@ -143,7 +143,7 @@ module _ (w : ℕ) (pos : 0 < w) (full : w * full_count w ≡ 252) where
       let r = back m (k + 1) (i + 1) x y (drop 512 t) first.1 ld (bytes_drop 512 t h) in
       let words = record_words w block in
       let rest = all_record_words w later in
-      let good = count_good_says w m (count_of block) (sound-shape w k m block sound).0 in
+      let good = count_good_says w m (count_of block) (sound_shape w k m block sound).0 in
       let few : w * count_of block ≤ 252 = count_fits w (count_of block) good.0 in
       let lw : length words ≡ w * count_of block = records_long w block lb few in
       let f = fills m (count_of block) good.1 good.2 in
@@ -154,5 +154,5 @@ module _ (w : ℕ) (pos : 0 < w) (full : w * full_count w ≡ 252) where
         same = rw (parts.0, parts.1, block_back w k m block pos lb hb sound, r.same) (take-append-drop 512 t);
         long = both ∙ rw (mul-add w (count_of block) (record_count later), lw, r.long);
         most = omega (arith, both, lw, few, r.most);
-        least = rw both (least-with m (length words) (length rest) (omega (arith, lw, f.0)) filled r.least);
+        least = rw both (least_with m (length words) (length rest) (omega (arith, lw, f.0)) filled r.least);
       }

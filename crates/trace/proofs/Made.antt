@@ -8,7 +8,7 @@ use lib.Dec.{leb}
 use lib.ListN.{length, take, drop, replicate, length-append, length-take, length-drop, length-replicate, drop_of_length-le}
 use lib.Seq.{take_all, take_at, drop_at, drop-drop}
 use borrow.Author.Tests.{leb-true, leb-false}
-use Rattle.choice.proofs.Filling.{middle-take, middle-long, middle-end}
+use Rattle.choice.proofs.Filling.{middle_take, middle_long, middle_end}
 use Rattle.trace.specs.Check.{check_of}
 use Rattle.trace.specs.Layout.{part, bytes_of, joined}
 use Rattle.trace.specs.Blocks.{head_of, body_of, sealed, block_of}
@@ -23,17 +23,17 @@ abbrev pub with_words : List ℕ → List ℕ → List ℕ → ℕ → List ℕ
 with_words body head bytes end = take 4 (with_head body head) ++ (bytes ++ drop (end - 4) (drop 4 (with_head body head)))
 
 module _ (body head bytes : List ℕ) (end : ℕ) (lb : length body ≡ 510) (lh : length head ≡ 4) (g : 4 ≤ end) (f : end ≤ 510) (ly : length bytes ≡ end - 4) where
-  head-long : length (with_head body head) ≡ 510
-  head-long = simp (length-append, length-drop) (omega arith)
+  head_long : length (with_head body head) ≡ 510
+  head_long = simp (length-append, length-drop) (omega arith)
 
   pub words_long : length (with_words body head bytes end) ≡ 510
-  words_long = middle-long (with_head body head) bytes 4 end g (omega (arith, head-long)) ly ∙ head-long
+  words_long = middle_long (with_head body head) bytes 4 end g (omega (arith, head_long)) ly ∙ head_long
 
   pieces : (filling : List ℕ) → take end (with_words body head bytes end) ++ (filling ++ drop (510 - end) (drop end (with_words body head bytes end))) ≡ (head ++ bytes) ++ filling
   pieces filling =
       let first : take 4 (with_head body head) ≡ head = take_at head (drop 4 body) 4 lh in
-      middle-end (with_words body head bytes end) filling end 510 f words_long
-      ∙ ap (λ (l : List ℕ). l ++ filling) (middle-take (with_head body head) bytes 4 end g (omega (arith, head-long)) ly ∙ ap (λ (l : List ℕ). l ++ bytes) first)
+      middle_end (with_words body head bytes end) filling end 510 f words_long
+      ∙ ap (λ (l : List ℕ). l ++ filling) (middle_take (with_head body head) bytes 4 end g (omega (arith, head_long)) ly ∙ ap (λ (l : List ℕ). l ++ bytes) first)
 
 pub length_head : (w k n : ℕ) → length (head_of w k n) ≡ 4
 unfolding head_of
@@ -76,14 +76,14 @@ made_long w k words h = simp length-append (omega (arith, body_long w k words h)
 words_part : (k n : ℕ) (words : List ℕ) → n ≡ min (length words - k * 252) 252 → part (k * 252) (k * 252 + n) words ≡ take 252 (drop (k * 252) words)
 words_part k n words e =
     let f : k * 252 + n - k * 252 ≡ n = omega arith in
-    rw f (by-test (drop (k * 252) words) n (rw length-drop e) (leb (length (drop (k * 252) words)) 252) refl)
+    rw f (by_test (drop (k * 252) words) n (rw length-drop e) (leb (length (drop (k * 252) words)) 252) refl)
   where
-    by-test : (l : List ℕ) (n : ℕ) → n ≡ min (length l) 252 → (b : Bool) → leb (length l) 252 ≡ b → take n l ≡ take 252 l
-    by-test l n e true q =
+    by_test : (l : List ℕ) (n : ℕ) → n ≡ min (length l) 252 → (b : Bool) → leb (length l) 252 ≡ b → take n l ≡ take 252 l
+    by_test l n e true q =
         let h : length l ≤ 252 = leb-true _ _ q in
         let g : length l ≤ n = omega arith in
         take_all n l g ∙ sym (take_all 252 l h)
-    by-test l n e false q =
+    by_test l n e false q =
         let h : 252 < length l = leb-false _ _ q in
         let g : n ≡ 252 = omega arith in
         rw g

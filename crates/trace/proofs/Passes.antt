@@ -1,6 +1,6 @@
 -- A pass over a byte: eight steps of the fold in one expression. Steps are linear, so a register and a byte fall into three parts, each of 256
 -- values, which are computed.
--- The law: `pass-is`.
+-- The law: `pass_is`.
 use mathlib.Core.Path.{◌≡◌, refl, sym, ap, ap₂, ◌∙◌}
 use Prim.Native.Nat.{ℕ, zero, suc, ◌*◌, ◌/◌, ◌%◌, ◌^◌, ◌<◌}
 use native.Mathlib.Omega.{arith}
@@ -11,7 +11,7 @@ use Rattle.alu.specs.Flags.{stored_link, plain, linked, flagged, with_sign}
 use Rattle.alu.specs.Operations.{moved_up, crc_step, crc_forward}
 use Rattle.alu.proofs.Bits.{bit_xor_lem}
 use Rattle.alu.proofs.Xors.{xor_assoc, xor_shl, xor_back}
-use Rattle.alu.proofs.Linear.{crc-linear}
+use Rattle.alu.proofs.Linear.{crc_linear}
 use Rattle.trace.specs.Folding.{fold_bit, fold_bits}
 
 link_linear : (a b : ℕ) → stored_link (16 * (bit_xor a b % 2)) ≡ bit_xor (stored_link (16 * (a % 2))) (stored_link (16 * (b % 2)))
@@ -20,7 +20,7 @@ link_linear a b =
     e (bit_xor a b) ∙ xor_mod a b 1 ∙ ap₂ bit_xor (sym (e a)) (sym (e b))
 
 bit_linear : (r s a b : ℕ) → fold_bit (bit_xor r s) (bit_xor a b) ≡ bit_xor (fold_bit r a) (fold_bit s b)
-bit_linear r s a b = crc-linear 16 0x1021 r s (16 * (a % 2)) (16 * (b % 2)) (16 * (bit_xor a b % 2)) (link_linear a b)
+bit_linear r s a b = crc_linear 16 0x1021 r s (16 * (a % 2)) (16 * (b % 2)) (16 * (bit_xor a b % 2)) (link_linear a b)
 
 bits_linear : (n r s a b : ℕ) → fold_bits n (bit_xor r s) (bit_xor a b) ≡ bit_xor (fold_bits n r a) (fold_bits n s b)
 bits_linear zero r s a b = refl
@@ -63,8 +63,8 @@ module _ (register byte : ℕ) (word : register < 2 ^ 16) (small : byte < 2 ^ 8)
       ∙ ap (λ (m : ℕ). bit_xor m rest) (xor_shl differ byte 8 ∙ ap (λ (m : ℕ). m * 2 ^ 8) (xor_back (register / 2 ^ 8) byte))
       ∙ xor_shifted (register / 2 ^ 8) 8 rest (omega arith) ∙ omega arith)
 
-  pub pass-is : fold_bits 8 register byte ≡ bit_xor (register * 2 ^ 8 % 2 ^ 16) (over (bit_xor differ (differ / 2 ^ 4)))
-  pass-is =
+  pub pass_is : fold_bits 8 register byte ≡ bit_xor (register * 2 ^ 8 % 2 ^ 16) (over (bit_xor differ (differ / 2 ^ 4)))
+  pass_is =
       let up : rest * 2 ^ 8 ≡ register * 2 ^ 8 % 2 ^ 16 = omega arith in
       ap (λ (r : ℕ). fold_bits 8 r byte) parted
       ∙ bits_linear 8 (differ * 2 ^ 8) (bit_xor (byte * 2 ^ 8) rest) 0 byte

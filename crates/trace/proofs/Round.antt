@@ -27,21 +27,21 @@ module _ (body : List ℕ) (long : length body ≡ 510) where
   abbrev low : ℕ
   low = check_of body % 256
 
-  sealed-body : part 0 510 (sealed body) ≡ body
+  sealed_body : part 0 510 (sealed body) ≡ body
   unfolding sealed
-  sealed-body = take_at body (high ∷ low ∷ []) 510 long
+  sealed_body = take_at body (high ∷ low ∷ []) 510 long
 
-  sealed-high : get_or (sealed body) 510 0 ≡ high
+  sealed_high : get_or (sealed body) 510 0 ≡ high
   unfolding sealed
-  sealed-high = get_or_at body high (low ∷ []) 0 510 long
+  sealed_high = get_or_at body high (low ∷ []) 0 510 long
 
-  sealed-low : get_or (sealed body) 511 0 ≡ low
+  sealed_low : get_or (sealed body) 511 0 ≡ low
   unfolding sealed
-  sealed-low = rw (← append_assoc body (high ∷ []) (low ∷ [])) (get_or_at (body ++ (high ∷ [])) low [] 0 511 (simp length-append (omega arith)))
+  sealed_low = rw (← append_assoc body (high ∷ []) (low ∷ [])) (get_or_at (body ++ (high ∷ [])) low [] 0 511 (simp length-append (omega arith)))
 
-  pub sealed-good : check_good (sealed body) ≡ true
+  pub sealed_good : check_good (sealed body) ≡ true
   unfolding check_good check_held
-  sealed-good = rw (sealed-body, sealed-high, sealed-low) (eq-eqb (check_of body) (256 * high + low) (omega arith))
+  sealed_good = rw (sealed_body, sealed_high, sealed_low) (eq-eqb (check_of body) (256 * high + low) (omega arith))
 
 -- a block of c records
 module _ (w k c : ℕ) (words : List ℕ) (pos : 0 < w) (long : length words ≡ w * c) (short : length words ≤ 252) where
@@ -55,37 +55,37 @@ module _ (w k c : ℕ) (words : List ℕ) (pos : 0 < w) (long : length words ≡
   unfolding sealed body_of
   pieces = simp append_assoc
 
-  pub made-count : count_of (block_of w k words) ≡ c
+  pub made_count : count_of (block_of w k words) ≡ c
   unfolding sealed body_of head_of
-  made-count = rw long (mul-div_cancel_left c pos)
+  made_count = rw long (mul-div_cancel_left c pos)
 
-  made-form : get_or (block_of w k words) 3 0 ≡ form_byte w
+  made_form : get_or (block_of w k words) 3 0 ≡ form_byte w
   unfolding sealed body_of head_of
-  made-form = refl
+  made_form = refl
 
-  made-number : word_at (block_of w k words) 0 ≡ k
+  made_number : word_at (block_of w k words) 0 ≡ k
   unfolding sealed body_of head_of
-  made-number = omega arith
+  made_number = omega arith
 
   end_is : records_end w c ≡ 4 + 2 * length words
   end_is = rw long
 
-  pub made-records : record_words w (block_of w k words) ≡ words
+  pub made_records : record_words w (block_of w k words) ≡ words
   unfolding record_words
-  made-records =
+  made_records =
       let d : drop 4 (head_of w k (length words) ++ (bytes_of words ++ (filling ++ pair))) ≡ bytes_of words ++ (filling ++ pair) = drop_at (head_of w k (length words)) _ 4 (length_head w k (length words)) in
       let l : length (bytes_of words) ≡ 4 + 2 * length words - 4 = length_bytes words ∙ omega arith in
-      rw (made-count, end_is, pieces, d, take_at (bytes_of words) (filling ++ pair) _ l) (words_bytes words)
+      rw (made_count, end_is, pieces, d, take_at (bytes_of words) (filling ++ pair) _ l) (words_bytes words)
 
-  made-filling : part (records_end w c) 510 (block_of w k words) ≡ filling
-  made-filling =
+  made_filling : part (records_end w c) 510 (block_of w k words) ≡ filling
+  made_filling =
       let h : length (head_of w k (length words) ++ bytes_of words) ≡ 4 + 2 * length words = simp length-append (omega (arith, length_head w k (length words), length_bytes words)) in
       let l : length filling ≡ 510 - (4 + 2 * length words) = length-replicate {A = ℕ} (506 - 2 * length words) 0 ∙ omega arith in
       rw (end_is, pieces, ← append_assoc (head_of w k (length words)) (bytes_of words) (filling ++ pair), drop_at (head_of w k (length words) ++ bytes_of words) (filling ++ pair) _ h) (take_at filling pair _ l)
 
-  pub made-sound : (left : ℕ) → count_good w left c ≡ true → block_refusal w k left (block_of w k words) ≡ 0
+  pub made_sound : (left : ℕ) → count_good w left c ≡ true → block_refusal w k left (block_of w k words) ≡ 0
   unfolding block_refusal shape_good
-  made-sound left good = rw (sealed-good (body_of w k words) (body_long w k words short), eq-eqb _ _ made-number, made-count, good, eq-eqb _ _ made-form, made-filling, zeros)
+  made_sound left good = rw (sealed_good (body_of w k words) (body_long w k words short), eq-eqb _ _ made_number, made_count, good, eq-eqb _ _ made_form, made_filling, zeros)
 
 -- the blocks of a made trace are those that were made
 pub made_trace_long : (w m k : ℕ) (words : List ℕ) → length (joined (blocks_from w m k words)) ≡ m * 512
@@ -131,7 +131,7 @@ module _ (w : ℕ) (pos : 0 < w) (full : w * full_count w ≡ 252) where
     least : m * 252 < length (drop 252 words) + 252
 
   first : (m n : ℕ) (words : List ℕ) → length words ≡ w * n → length words ≤ suc m * 252 → suc m * 252 < length words + 252 → First m n words
-  first m n words e h g = by-test (leb (length words) 252) refl
+  first m n words e h g = by_test (leb (length words) 252) refl
     where
       few : length words ≤ 252 → n ≤ full_count w
       few s =
@@ -143,8 +143,8 @@ module _ (w : ℕ) (pos : 0 < w) (full : w * full_count w ≡ 252) where
           let q : w * full_count w ≤ w * n = omega (arith, full, e) in
           le_of_mul-le-mul_left q pos
 
-      by-test : (t : Bool) → leb (length words) 252 ≡ t → First m n words
-      by-test true t =
+      by_test : (t : Bool) → leb (length words) 252 ≡ t → First m n words
+      by_test true t =
           let s : length words ≤ 252 = leb-true _ _ t in
           let z : length (drop 252 words) ≡ 0 = simp length-drop (omega arith) in
           let last : m ≡ 0 = omega arith in
@@ -158,7 +158,7 @@ module _ (w : ℕ) (pos : 0 < w) (full : w * full_count w ≡ 252) where
             most = omega arith;
             least = omega arith;
           }
-      by-test false t =
+      by_test false t =
           let s : 252 < length words = leb-false _ _ t in
           let i : full_count w + (n - full_count w) ≡ n = omega (arith, many s) in
           let j : w * full_count w + w * (n - full_count w) ≡ w * n = sym (mul-add w (full_count w) (n - full_count w)) ∙ ap (λ (x : ℕ). w * x) i in
@@ -189,9 +189,9 @@ module _ (w : ℕ) (pos : 0 < w) (full : w * full_count w ≡ 252) where
       let s : length (take 252 words) ≤ 252 = simp length-take (omega arith) in
       let r = round m (k + 1) f.after (drop 252 words) f.rest f.most f.least in
       let zero-here : block_refusal w k (length (blocks_from w m (k + 1) (drop 252 words))) (block_of w k (take 252 words)) ≡ 0 =
-      rw (length_made w m (k + 1) (drop 252 words)) (made-sound w k f.here (take 252 words) pos f.long s m f.good) in
+      rw (length_made w m (k + 1) (drop 252 words)) (made_sound w k f.here (take 252 words) pos f.long s m f.good) in
       record {
         sound = λ i rest. rw (eq-eqb _ _ zero-here) (r.sound (i + 1) rest);
-        count = rw (made-count w k f.here (take 252 words) pos f.long s, r.count) f.sum;
-        same = rw (made-records w k f.here (take 252 words) pos f.long s, r.same) (take-append-drop 252 words);
+        count = rw (made_count w k f.here (take 252 words) pos f.long s, r.count) f.sum;
+        same = rw (made_records w k f.here (take 252 words) pos f.long s, r.same) (take-append-drop 252 words);
       }

@@ -1,5 +1,5 @@
 -- The two round trips: what the writer makes the reader gives back, and what the reader accepts the writer makes again.
--- The laws, in this order: `read_made`, `made-read`, `three_words`, `four_words`, `written_read`, `read_written`.
+-- The laws, in this order: `read_made`, `made_read`, `three_words`, `four_words`, `written_read`, `read_written`.
 use mathlib.Core.Path.{◌≡◌, refl, sym, ap, subst, ◌∙◌}
 use mathlib.Core.List.{List, ◌++◌}
 use Prim.Native.Nat.{ℕ, ◌*◌, ◌/◌, ◌%◌, ◌≤◌, ◌<◌}
@@ -45,9 +45,9 @@ module _ (w : ℕ) (pos : 0 < w) (full : w * full_count w ≡ 252) where
       )
 
   -- an accepted trace is made again of its words
-  pub made-read : (t : List ℕ) (room y room' : ℕ) → read_of w t room ≡ accepted_whole y → Bytes t → length t ≤ room'
+  pub made_read : (t : List ℕ) (room y room' : ℕ) → read_of w t room ≡ accepted_whole y → Bytes t → length t ≤ room'
       → (length (read_words w t) ≡ y) × (write_of w y room' ≡ accepted_whole (length t)) × (trace_of w (read_words w t) ≡ t)
-  made-read t room y room' e bytes enough =
+  made_read t room y room' e bytes enough =
       let says = read_says w t room y e in
       let n = record_count (trace_blocks t) in
       let m = length t / block_bytes in
@@ -91,7 +91,7 @@ pub read_written : (t : List ℕ) (n : ℕ) (cycles cycles' : List ℕ) → Byte
     → (r : Filled) (trace trace' : List ℕ) → Writes (take n cycles') r trace trace' → length t ≤ length trace
     → (r ≡ Accepted (length t)) × (trace' ≡ t ++ drop (length t) trace)
 read_written t n cycles cycles' bytes f r trace trace' w enough =
-    let again = made-read 3 (omega arith) three_words.0 t (length cycles) n (length trace) (sym f.told) bytes enough in
+    let again = made_read 3 (omega arith) three_words.0 t (length cycles) n (length trace) (sym f.told) bytes enough in
     let filled : take n cycles' ≡ read_words 3 t =
     ap (take n) (left_by (read_of 3 t (length cycles)) n (read_words 3 t) cycles cycles' (sym f.told) f.written) ∙ take_at (read_words 3 t) (drop n cycles) n again.0 in
     let answer : write_of 3 (length (take n cycles')) (length trace) ≡ accepted_whole (length t) =

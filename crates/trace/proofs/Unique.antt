@@ -3,7 +3,7 @@ use mathlib.Core.Path.{◌≡◌, sym, ap, ◌∙◌}
 use mathlib.Core.List.{List}
 use Prim.Native.Nat.{ℕ}
 use Rattle.choice.specs.Tells.{Placed}
-use Rattle.choice.proofs.Tells.{whole-one, refused-at-one, whole-refused}
+use Rattle.choice.proofs.Tells.{whole_one, refused_at_one, whole_refused}
 use Rattle.trace.specs.declared.Filled.{Filled}
 use Rattle.trace.specs.declared.Filled.TheVariants.{Accepted, Refused}
 use Rattle.trace.specs.Check.{check_of}
@@ -15,11 +15,11 @@ use Rattle.trace.specs.Writing.{Writes}
 
 -- what an answer tells fixes it
 pub filled_one : (x y : Filled) → filled_tells x ≡ filled_tells y → x ≡ y
-filled_one (Accepted n) (Accepted m) e = ap Accepted (whole-one n m e)
-filled_one (Accepted n) (Refused k i) e = absurd (whole-refused n k i e)
-filled_one (Refused k i) (Accepted n) e = absurd (whole-refused n k i (sym e))
+filled_one (Accepted n) (Accepted m) e = ap Accepted (whole_one n m e)
+filled_one (Accepted n) (Refused k i) e = absurd (whole_refused n k i e)
+filled_one (Refused k i) (Accepted n) e = absurd (whole_refused n k i (sym e))
 filled_one (Refused k i) (Refused l j) e =
-    let both = refused-at-one k l i j e in
+    let both = refused_at_one k l i j e in
     ap (λ (x : ℕ). Refused x i) both.0 ∙ ap (Refused l) both.1
 
 fills_one : (answer : Placed ℕ) (made before : List ℕ) (r s : Filled) (after after' : List ℕ) → Fills answer made r before after → Fills answer made s before after'

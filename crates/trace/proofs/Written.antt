@@ -4,7 +4,7 @@ use mathlib.Core.List.{List, [], ◌++◌}
 use Prim.Native.Nat.{ℕ, ◌+◌, ◌-◌, ◌*◌, ◌≤◌, ◌<◌, min}
 use native.Mathlib.Omega.{arith}
 use lib.ListN.{length, take, drop, length-take, length-drop}
-use Rattle.choice.proofs.Filling.{turn-part, turned}
+use Rattle.choice.proofs.Filling.{turn_part, turned}
 use Rattle.trace.specs.Layout.{part, joined}
 use Rattle.trace.specs.Blocks.{block_of}
 use Rattle.trace.specs.Writing.{blocks_from}
@@ -38,7 +38,7 @@ module _ {w m : ℕ} {words trace₀ trace : List ℕ} {k : ℕ} (b : Before w m
       let next : (k + 1) * 512 ≡ k * 512 + 512 = omega arith in
       let few : length (part (k * 252) (k * 252 + n) words) ≤ 252 = simp (length-take, length-drop) (omega (arith, en)) in
       let long : length made ≡ k * 512 + 512 - k * 512 = rw em (omega (arith, made_long w k (part (k * 252) (k * 252 + n) words) few)) in
-      let f = turn-part trace trace₀ made (to_come w m words k) (to_come w m words (k + 1)) (joined (blocks_from w m 0 words)) (k * 512) (k * 512 + 512) (omega arith)
+      let f = turn_part trace trace₀ made (to_come w m words k) (to_come w m words (k + 1)) (joined (blocks_from w m 0 words)) (k * 512) (k * 512 + 512) (omega arith)
       (omega (arith, b.room, fits)) long (made_step w m k n words made h en em) b.fills b.rest in
       record {
         bound = omega arith;

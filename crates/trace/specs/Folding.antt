@@ -1,6 +1,6 @@
 -- For the contract of a private part and a law: the check on the register alone (document 02, §6); of the machine in specs/Check only the register and
 -- the incoming bit are carried.
--- `fold_bits` is for the contract of a pass over a byte, `fold_bytes` for `check-fold` (proofs/Folded), which says that it is the same check.
+-- `fold_bits` is for the contract of a pass over a byte, `fold_bytes` for `check_fold` (proofs/Folded), which says that it is the same check.
 use Rattle.std.specs.Prelude.{ℕ, zero, suc, ◌*◌, ◌%◌, List, [], ◌∷◌}
 use Rattle.alu.specs.Width.{bit}
 use Rattle.alu.specs.Operations.{crc_forward}

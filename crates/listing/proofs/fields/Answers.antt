@@ -1,6 +1,6 @@
 -- `listing::fields` meets its contract.
 -- src/lib.rt:142:9
-use Rattle.listing.proofs.Ways.{value-bound, way_a, way-b, way-c, way_end}
+use Rattle.listing.proofs.Ways.{value_bound, way_a, way-b, way-c, way_end}
 use Rattle.listing.proofs.fields.Reads as reads
 use Rattle.listing.proofs.fields.Lts as lts
 use Rattle.isa.proofs.numbered_row.Reads as numbered-row-reads
@@ -13,13 +13,13 @@ use Rattle.listing.proofs.reading.field.Reads as field-reads
 use Rattle.listing.proofs.fields.Goals as goal
 
 pub field-requires-in-Value : goal.field-requires-in-Value
-field-requires-in-Value c = value-bound c.args.line.now _ c.field.result c.field.ensures c.in-Value.a c.in-Value.at c.in-Value.is
+field-requires-in-Value c = value_bound c.args.line.now _ c.field.result c.field.ensures c.in-Value.a c.in-Value.at c.in-Value.is
 
 pub field-requires-in-Value-field : goal.field-requires-in-Value-field
-field-requires-in-Value-field c = value-bound c.args.line.now _ c.field-in-Value.result c.field-in-Value.ensures c.in-Value-field.b c.in-Value-field.at c.in-Value-field.is
+field-requires-in-Value-field c = value_bound c.args.line.now _ c.field-in-Value.result c.field-in-Value.ensures c.in-Value-field.b c.in-Value-field.at c.in-Value-field.is
 
 pub finish-requires : goal.finish-requires
-finish-requires c = value-bound c.args.line.now _ c.field-in-Value-field.result c.field-in-Value-field.ensures c.in-Value-field-2.c c.in-Value-field-2.at c.in-Value-field-2.is
+finish-requires c = value_bound c.args.line.now _ c.field-in-Value-field.result c.field-in-Value-field.ensures c.in-Value-field-2.c c.in-Value-field-2.at c.in-Value-field-2.is
 
 pub returns-in-Refused : goal.returns-in-Refused
 returns-in-Refused c = way_a c.args.line.now c.args.at c.args.number c.args.mark c.requires.1 c.numbered_row-row.result c.numbered_row-row.ensures c.place_a.result c.place_a.ensures c.field.result c.field.ensures c.in-Refused.refusal c.in-Refused.column c.in-Refused.is

@@ -2,7 +2,7 @@
 use mathlib.Core.Path.{ap, ◌∙◌}
 use Prim.Native.Nat.{◌-◌}
 use native.Mathlib.Omega.{arith}
-use Rattle.choice.proofs.Tells.{tells-accepted, tells-refused}
+use Rattle.choice.proofs.Tells.{tells_accepted, tells_refused}
 use Rattle.machine.specs.Cycles.{cycle_of}
 use Rattle.machine.specs.Stepping.{machine_from, report_in}
 use Rattle.run.proofs.Courses.{completions_le}
@@ -32,7 +32,7 @@ returns-then-stepped-ne0 c =
     let loop = c.loop-i in
     rw c.ended-then-stepped-ne0.ensures
     (refuses loop.invariant c.requires.2 c.loop-i-test.true c.if-left-eq0.false _
-    (c.step-stepped.ensures.turn ∙ ap (cycle_of (machine_from loop.ram loop.core)) c.cycle_at.ensures) _ (tells-refused _ _ c.if-stepped-ne0.true))
+    (c.step-stepped.ensures.turn ∙ ap (cycle_of (machine_from loop.ram loop.core)) c.cycle_at.ensures) _ (tells_refused _ _ c.if-stepped-ne0.true))
 
 pub put-requires : goal.put-requires
 put-requires c = omega (arith, c.loop-i.invariant.room, c.requires, c.loop-i-test.true)
@@ -50,7 +50,7 @@ loop-i-preserved c =
     let loop = c.loop-i in
     rw c.instructions-completed.ensures
     (again loop.invariant c.requires.2 c.loop-i-test.true c.if-left-eq0.false _
-    (c.step-stepped.ensures.turn ∙ ap (cycle_of (machine_from loop.ram loop.core)) c.cycle_at.ensures) (report_in c.step-stepped.result) _ (tells-accepted _ _ c.if-stepped-ne0.false) c.put.ensures)
+    (c.step-stepped.ensures.turn ∙ ap (cycle_of (machine_from loop.ram loop.core)) c.cycle_at.ensures) (report_in c.step-stepped.result) _ (tells_accepted _ _ c.if-stepped-ne0.false) c.put.ensures)
 
 pub shape_of-reports : goal.shape_of-reports
 shape_of-reports c = c.loop-i.invariant.room

@@ -7,15 +7,14 @@ use native.Mathlib.Numerals.{add-one}
 use lib.ListN.{length, drop, get_or, drop_of_length-le}
 use lib.Seq.{drop-cons}
 use Rattle.trace.specs.Folding.{fold_bits, fold_bytes}
-use Rattle.trace.proofs.Folded.{check-fold}
+use Rattle.trace.proofs.Folded.{check_fold}
 use Rattle.trace.proofs.check.Goals as goal
 
 pub loop-i-init : goal.loop-i-init
-loop-i-init c = (omega arith, sym (check-fold c.args.bytes.now))
+loop-i-init c = (omega arith, sym (check_fold c.args.bytes.now))
 
 fold_step : (register : ℕ) (l : List ℕ) (i : ℕ) → i < length l → fold_bytes register (drop i l) ≡ fold_bytes (fold_bits 8 register (get_or l i 0)) (drop (i + 1) l)
 fold_step register l i h = rw (add-one, drop-cons l i 0)
-
 
 pub loop-i-preserved : goal.loop-i-preserved
 loop-i-preserved c =

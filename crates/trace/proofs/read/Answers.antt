@@ -4,16 +4,16 @@ use Prim.Native.Nat.{◌*◌}
 use native.Mathlib.Omega.{arith}
 use lib.ListN.{length}
 use Rattle.trace.specs.Answers.{filled_tells}
-use Rattle.trace.proofs.Answered.{refuses, accepts, read-11, read-many, read_refused, read-over, read_short, read_done}
+use Rattle.trace.proofs.Answered.{refuses, accepts, read_11, read_many, read_refused, read-over, read_short, read_done}
 use Rattle.trace.proofs.read.Goals as goal
 
 pub returns-then-trace-ne0 : goal.returns-then-trace-ne0
 returns-then-trace-ne0 c =
-    refuses 11 0 (read-11 3 c.args.trace.now (length c.args.cycles.now) c.if-trace-ne0.true)
+    refuses 11 0 (read_11 3 c.args.trace.now (length c.args.cycles.now) c.if-trace-ne0.true)
 
 pub returns-then-blocks-gt-MOST_BLOCKS : goal.returns-then-blocks-gt-MOST_BLOCKS
 returns-then-blocks-gt-MOST_BLOCKS c =
-    refuses 2 0 (read-many 3 c.args.trace.now (length c.args.cycles.now) c.if-trace-ne0.false c.if-blocks-gt-MOST_BLOCKS.true)
+    refuses 2 0 (read_many 3 c.args.trace.now (length c.args.cycles.now) c.if-trace-ne0.false c.if-blocks-gt-MOST_BLOCKS.true)
 
 pub returns-then-records-gt-MOST_CYCLES : goal.returns-then-records-gt-MOST_CYCLES
 returns-then-records-gt-MOST_CYCLES c =

@@ -3,7 +3,7 @@ use Prim.Native.Nat.{◌+◌, ◌<◌}
 use native.Mathlib.Omega.{arith}
 use Rattle.trace.specs.Layout.{words_per_record, block_bytes}
 use Rattle.trace.specs.Limits.{too_long}
-use Rattle.trace.proofs.Long.{kept-lt}
+use Rattle.trace.proofs.Long.{kept_lt}
 use borrow.Author.Rules.{rules}
 use Rattle.files.proofs.reading.count_rest.Statement.{statement}
 use Rattle.files.proofs.reading.count_rest.Tie as tie
@@ -18,7 +18,7 @@ kept-requires : tie.Need-kept-requires invariant-loop decreases-loop
 kept-requires c κs = search rules
 
 loop-holds : tie.Need-loop-init invariant-loop decreases-loop
-loop-holds c = omega (arith, c.kept.ensures, kept-lt 3 c.before.args.first)
+loop-holds c = omega (arith, c.kept.ensures, kept_lt 3 c.before.args.first)
 
 slice-aggregate-fill : tie.Need-slice-aggregate-fill invariant-loop decreases-loop
 slice-aggregate-fill c = search rules
@@ -33,7 +33,7 @@ kept-requires-2 : tie.Need-kept-requires-2 invariant-loop decreases-loop
 kept-requires-2 c κs = search rules
 
 returns : tie.Need-returns invariant-loop decreases-loop
-returns c = omega (arith, c.before.before.kept2.ensures, kept-lt 3 (c.before.before.before.before.before.before.before.before.loop.auto + c.before.before.before.before.before.fill.result.bytes))
+returns c = omega (arith, c.before.before.kept2.ensures, kept_lt 3 (c.before.before.before.before.before.before.before.before.loop.auto + c.before.before.before.before.before.fill.result.bytes))
 
 sub-turns : tie.Need-overflow-sub-turns invariant-loop decreases-loop
 sub-turns c = search rules
@@ -42,7 +42,7 @@ loop-less : tie.Need-loop-smaller invariant-loop decreases-loop
 loop-less c = search rules
 
 loop-again : tie.Need-loop-preserved invariant-loop decreases-loop
-loop-again c = omega (arith, c.before.before.kept2.ensures, kept-lt 3 (c.before.before.before.before.before.before.before.before.loop.auto + c.before.before.before.before.before.fill.result.bytes))
+loop-again c = omega (arith, c.before.before.kept2.ensures, kept_lt 3 (c.before.before.before.before.before.before.before.before.loop.auto + c.before.before.before.before.before.fill.result.bytes))
 
 returns-2 : tie.Need-returns-2 invariant-loop decreases-loop
 returns-2 c = c.before.loop.invariant

@@ -1,5 +1,5 @@
 -- `isa::slots::slot` meets its contract: each quadrant is its function's; quadrant 1 goes by B alone.
-use Rattle.isa.proofs.Arms.{at_quadrant, by-b}
+use Rattle.isa.proofs.Arms.{at_quadrant, by_b}
 use native.Mathlib.Omega.{arith}
 use Rattle.isa.proofs.slots.slot.Goals as goal
 
@@ -7,7 +7,7 @@ pub returns-in-0 : goal.returns-in-0
 returns-in-0 c = at_quadrant 0 c.args.q c.args.mark c.args.a c.args.b _ c.in-0.is c.quadrant_0.ensures
 
 pub returns-in-1 : goal.returns-in-1
-returns-in-1 c = at_quadrant 1 c.args.q c.args.mark c.args.a c.args.b _ c.in-1.is (by-b 1 0 2 0 16 0 16 0 0 tt c.args.mark c.args.a c.args.b _ 16 (omega arith) (omega arith) c.quadrant_1.ensures)
+returns-in-1 c = at_quadrant 1 c.args.q c.args.mark c.args.a c.args.b _ c.in-1.is (by_b 1 0 2 0 16 0 16 0 0 tt c.args.mark c.args.a c.args.b _ 16 (omega arith) (omega arith) c.quadrant_1.ensures)
 
 pub returns-in-2 : goal.returns-in-2
 returns-in-2 c = at_quadrant 2 c.args.q c.args.mark c.args.a c.args.b _ c.in-2.is c.quadrant_2.ensures

@@ -5,7 +5,7 @@ use native.Mathlib.Omega.{arith}
 use lib.ListN.{length, take, drop, length-take, length-drop}
 use Rattle.choice.specs.Text.{numeral}
 use Rattle.lines.proofs.Spelled.{length_numeral}
-use Rattle.lines.proofs.Putting.{puts-part, part-long, puts_last}
+use Rattle.lines.proofs.Putting.{puts_part, part_long, puts_last}
 use Rattle.lines.proofs.fields.put_numeral.Goals as goal
 
 pub returns : goal.returns
@@ -19,4 +19,4 @@ returns c =
     let same : made ≡ digits = c.spell.ensures ∙ ap (λ (n : ℕ). numeral c.args.base n c.args.x) size in
     let ends : end ≡ at + length digits = omega (arith, length_numeral c.args.base c.args.count c.args.x) in
     let fits : end ≤ length line = omega arith in
-    (puts_last digits at end c.args.last line _ (puts-part line made digits at end same ends fits) (omega (arith, part-long line made digits at end same ends fits)), refl)
+    (puts_last digits at end c.args.last line _ (puts_part line made digits at end same ends fits) (omega (arith, part_long line made digits at end same ends fits)), refl)

@@ -3,9 +3,9 @@ use mathlib.Core.Path.{refl}
 use Prim.Native.Nat.{◌+◌}
 use native.Mathlib.Omega.{arith}
 use lib.ListN.{length}
-use Rattle.lines.proofs.Putting.{puts-part}
+use Rattle.lines.proofs.Putting.{puts_part}
 use Rattle.lines.proofs.fields.put_text.Goals as goal
 
 pub returns : goal.returns
 returns c =
-    puts-part c.args.line.now c.copy.new.part c.args.text.now c.args.at (c.args.at + length c.args.text.now) c.copy.ensures refl (omega arith)
+    puts_part c.args.line.now c.copy.new.part c.args.text.now c.args.at (c.args.at + length c.args.text.now) c.copy.ensures refl (omega arith)

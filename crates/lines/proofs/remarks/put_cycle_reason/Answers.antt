@@ -1,7 +1,7 @@
 -- `lines::remarks::put_cycle_reason` meets its contract: a row of the table an arm.
 use Rattle.lines.proofs.Putting.{puts_by}
 use Prim.Native.Nat.{ℕ}
-use Rattle.lines.proofs.Unlisted.{only-ten}
+use Rattle.lines.proofs.Unlisted.{only_ten}
 use Rattle.lines.specs.Remarks.{meaning_of, reason_text}
 use Rattle.lines.proofs.remarks.put_cycle_reason.Goals as goal
 
@@ -27,4 +27,4 @@ returns-in-9 c = let a = c.args in (puts_by (λ (n : ℕ). reason_text (meaning_
 
 pub returns-in_default : goal.returns-in_default
 unfolding meaning_of
-returns-in_default c = let a = c.args in (puts_by (λ (n : ℕ). reason_text (meaning_of n) a.index a.word a.pins) (only-ten a.number c.requires.0 c.requires.1 c.in_default.in_default-own.rest) c.put_cycle-in_default.ensures.0, c.put_cycle-in_default.ensures.1)
+returns-in_default c = let a = c.args in (puts_by (λ (n : ℕ). reason_text (meaning_of n) a.index a.word a.pins) (only_ten a.number c.requires.0 c.requires.1 c.in_default.in_default-own.rest) c.put_cycle-in_default.ensures.0, c.put_cycle-in_default.ensures.1)

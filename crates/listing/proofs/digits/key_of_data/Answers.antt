@@ -1,10 +1,10 @@
 -- `listing::digits::key_of_data` meets its contract.
 -- src/digits.rt:26:5
-use Rattle.listing.proofs.Hex.{spelt-key}
+use Rattle.listing.proofs.Hex.{spelt_key}
 use Rattle.listing.proofs.digits.key_of_data.Reads as reads
 use Rattle.listing.proofs.digits.key_of_data.Lts as lts
 use Rattle.listing.proofs.digits.digit.Reads as digit-reads
 use Rattle.listing.proofs.digits.key_of_data.Goals as goal
 
 pub returns : goal.returns
-returns c = rw (c.digit-4.ensures.0, c.digit-3.ensures.0, c.digit-2.ensures.0, c.digit.ensures.0) (spelt-key c.args.operand)
+returns c = rw (c.digit-4.ensures.0, c.digit-3.ensures.0, c.digit-2.ensures.0, c.digit.ensures.0) (spelt_key c.args.operand)

@@ -1,6 +1,6 @@
 -- `listing::finding::find` meets its contract.
 use borrow.Author.Tests.{ltb-true, ltb-false}
-use Rattle.listing.proofs.Finds.{find-here, find-next, find-end}
+use Rattle.listing.proofs.Finds.{find_here, find_next, find_end}
 use native.Mathlib.Omega.{arith}
 use mathlib.Core.Path.{◌≡◌, refl}
 use Prim.Native.Nat.{◌-◌, ◌%◌, ◌≤◌}
@@ -22,7 +22,7 @@ pub overflow_cast-result : goal.overflow_cast-result
 overflow_cast-result c = omega arith
 
 pub returns-then-entry-key : goal.returns-then-entry-key
-returns-then-entry-key c = find-here c.args.place c.loop-i.i c.entry-entry.result c.loop-i-test.true c.if-first-i-lt-ENTRIES.true (c.entry-entry.ensures c.if-first-i-lt-ENTRIES.true) c.args.key c.loop-i.invariant.1 c.if-entry-key.true
+returns-then-entry-key c = find_here c.args.place c.loop-i.i c.entry-entry.result c.loop-i-test.true c.if-first-i-lt-ENTRIES.true (c.entry-entry.ensures c.if-first-i-lt-ENTRIES.true) c.args.key c.loop-i.invariant.1 c.if-entry-key.true
 
 pub overflow_add-i : goal.overflow_add-i
 overflow_add-i c = omega arith
@@ -31,10 +31,10 @@ pub loop-i-smaller : goal.loop-i-smaller
 loop-i-smaller c = omega arith
 
 pub loop-i-preserved : goal.loop-i-preserved
-loop-i-preserved c = (omega (arith, c.loop-i-test.true), find-next c.args.place c.loop-i.i c.entry-entry.result c.loop-i-test.true c.if-first-i-lt-ENTRIES.true (c.entry-entry.ensures c.if-first-i-lt-ENTRIES.true) c.args.key c.loop-i.invariant.1 c.if-entry-key.false)
+loop-i-preserved c = (omega (arith, c.loop-i-test.true), find_next c.args.place c.loop-i.i c.entry-entry.result c.loop-i-test.true c.if-first-i-lt-ENTRIES.true (c.entry-entry.ensures c.if-first-i-lt-ENTRIES.true) c.args.key c.loop-i.invariant.1 c.if-entry-key.false)
 
 pub returns-else-first-i-lt-ENTRIES : goal.returns-else-first-i-lt-ENTRIES
-returns-else-first-i-lt-ENTRIES c = find-end c.args.place c.loop-i.i (λ h. c.if-first-i-lt-ENTRIES.false) c.args.key c.loop-i.invariant.1
+returns-else-first-i-lt-ENTRIES c = find_end c.args.place c.loop-i.i (λ h. c.if-first-i-lt-ENTRIES.false) c.args.key c.loop-i.invariant.1
 
 pub returns-after-loop-i : goal.returns-after-loop-i
-returns-after-loop-i c = find-end c.args.place c.loop-i.i (λ h. absurd (omega (arith, c.loop-i-test.false))) c.args.key c.loop-i.invariant.1
+returns-after-loop-i c = find_end c.args.place c.loop-i.i (λ h. absurd (omega (arith, c.loop-i-test.false))) c.args.key c.loop-i.invariant.1

@@ -1,6 +1,6 @@
 -- `listing::writing::put_line` meets its contract.
 -- src/lib.rt:116:9
-use Rattle.listing.proofs.Bytes.{room_0, room-1, room-2, room-3, room-4, all-put}
+use Rattle.listing.proofs.Bytes.{room_0, room_1, room-2, room-3, room-4, all-put}
 use Rattle.listing.proofs.writing.put_line.Reads as reads
 use Rattle.listing.proofs.writing.put_line.Lts as lts
 use Rattle.listing.proofs.writing.put.Reads as put_reads
@@ -11,7 +11,7 @@ pub put-at-requires : goal.put-at-requires
 put-at-requires c = room_0 c.args.keys c.args.out.now c.requires
 
 pub put_after-at-requires : goal.put_after-at-requires
-put_after-at-requires c = room-1 c.args.keys c.args.out.now c.requires _ _ c.put-at.ensures
+put_after-at-requires c = room_1 c.args.keys c.args.out.now c.requires _ _ c.put-at.ensures
 
 pub put_after-at-requires-2 : goal.put_after-at-requires-2
 put_after-at-requires-2 c = room-2 c.args.keys c.args.out.now c.requires _ _ c.put-at.ensures _ _ c.put_after-at.ensures

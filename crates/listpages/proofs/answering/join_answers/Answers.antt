@@ -1,5 +1,5 @@
 -- `listpages::answering::join_answers` meets its contract.
-use Rattle.listpages.proofs.Outs.{next_reading, answers-begun, answers_at, answers-grown, answers-turn, answers-ended, answers-long}
+use Rattle.listpages.proofs.Outs.{next_reading, answers_begun, answers_at, answers-grown, answers-turn, answers_ended, answers_long}
 use Prim.Native.Nat.{◌-◌}
 use native.Mathlib.Omega.{arith}
 use Rattle.listpages.proofs.answering.join_answers.Reads as reads
@@ -11,7 +11,7 @@ use Rattle.listpages.proofs.entries.bytes_in.Reads as bytes-in-reads
 use Rattle.listpages.proofs.answering.join_answers.Goals as goal
 
 pub loop-from-init : goal.loop-from-init
-loop-from-init c = answers-begun c.args.reading c.args.bytes.now c.args.text.now
+loop-from-init c = answers_begun c.args.reading c.args.bytes.now c.args.text.now
 
 pub line_end-end-requires : goal.line_end-end-requires
 line_end-end-requires c = omega (arith, c.loop-from-test.true)
@@ -44,7 +44,7 @@ pub loop-from-preserved : goal.loop-from-preserved
 loop-from-preserved c = rw c.bytes_in-at.ensures (answers-turn c.args.reading c.args.bytes.now c.args.text.now c.requires c.loop-from.text c.loop-from.at c.loop-from.state c.loop-from.from c.loop-from.invariant c.line_end-end.result c.line_end-end.ensures _ _ c.answer_line-answer.ensures.made _ (next_reading c.loop-from.state _ _ _ _ _ c.answer_line-answer.ensures c.count.ensures))
 
 pub shape_of-text : goal.shape_of-text
-shape_of-text c = answers-long c.args.reading c.args.bytes.now c.args.text.now c.loop-from.text c.loop-from.at c.loop-from.state c.loop-from.from c.loop-from.invariant
+shape_of-text c = answers_long c.args.reading c.args.bytes.now c.args.text.now c.loop-from.text c.loop-from.at c.loop-from.state c.loop-from.from c.loop-from.invariant
 
 pub returns : goal.returns
-returns c = answers-ended c.args.reading c.args.bytes.now c.args.text.now c.requires c.loop-from.text c.loop-from.at c.loop-from.state c.loop-from.from c.loop-from.invariant c.loop-from-test.false
+returns c = answers_ended c.args.reading c.args.bytes.now c.args.text.now c.requires c.loop-from.text c.loop-from.at c.loop-from.state c.loop-from.from c.loop-from.invariant c.loop-from-test.false

@@ -1,5 +1,5 @@
 -- `listpages::answering::line_end` meets its contract.
-use Rattle.listpages.proofs.Lined.{within_start, within-turn, ends-feed, ends-bytes}
+use Rattle.listpages.proofs.Lined.{within_start, within_turn, ends_feed, ends_bytes}
 use Prim.Native.Nat.{◌-◌}
 use borrow.Author.Tests.{eq-eqb, ne_eqb}
 use native.Mathlib.Omega.{arith}
@@ -14,7 +14,7 @@ pub bounds-bytes-i : goal.bounds-bytes-i
 bounds-bytes-i c = omega (arith, c.loop-i-test.true)
 
 pub returns-then-bytes-i-eq10 : goal.returns-then-bytes-i-eq10
-returns-then-bytes-i-eq10 c = ends-feed c.args.bytes.now c.args.from c.loop-i.i c.loop-i.invariant c.loop-i-test.true (eq-eqb _ _ c.if-bytes-i-eq10.true)
+returns-then-bytes-i-eq10 c = ends_feed c.args.bytes.now c.args.from c.loop-i.i c.loop-i.invariant c.loop-i-test.true (eq-eqb _ _ c.if-bytes-i-eq10.true)
 
 pub overflow_add-i : goal.overflow_add-i
 overflow_add-i c = omega (arith, c.loop-i-test.true)
@@ -23,7 +23,7 @@ pub loop-i-smaller : goal.loop-i-smaller
 loop-i-smaller c = omega (arith, c.loop-i-test.true)
 
 pub loop-i-preserved : goal.loop-i-preserved
-loop-i-preserved c = within-turn c.args.bytes.now c.args.from c.loop-i.i c.loop-i.invariant c.loop-i-test.true (ne_eqb _ _ c.if-bytes-i-eq10.false)
+loop-i-preserved c = within_turn c.args.bytes.now c.args.from c.loop-i.i c.loop-i.invariant c.loop-i-test.true (ne_eqb _ _ c.if-bytes-i-eq10.false)
 
 pub returns : goal.returns
-returns c = ends-bytes c.args.bytes.now c.args.from c.loop-i.i c.loop-i.invariant c.loop-i-test.false c.requires
+returns c = ends_bytes c.args.bytes.now c.args.from c.loop-i.i c.loop-i.invariant c.loop-i-test.false c.requires

@@ -1,6 +1,6 @@
 -- `listpages::entries::waits_after` meets its contract.
 -- src/entries.rt:83:9
-use Rattle.listpages.proofs.Entered.{after-word}
+use Rattle.listpages.proofs.Entered.{after_word_lem}
 use mathlib.Core.Path.{◌∙◌}
 use Rattle.listpages.proofs.entries.waits_after.Reads as reads
 use Rattle.listpages.proofs.entries.waits_after.Lts as lts
@@ -8,4 +8,4 @@ use Rattle.isa.proofs.takes_immediate.Reads as takes-immediate-reads
 use Rattle.listpages.proofs.entries.waits_after.Goals as goal
 
 pub returns-else-waits : goal.returns-else-waits
-returns-else-waits c = c.takes_immediate.ensures ∙ after-word c.args.waits c.args.word c.if-waits.false
+returns-else-waits c = c.takes_immediate.ensures ∙ after_word_lem c.args.waits c.args.word c.if-waits.false

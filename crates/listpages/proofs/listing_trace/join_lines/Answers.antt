@@ -1,5 +1,5 @@
 -- `listpages::listing_trace::join_lines` meets its contract.
-use Rattle.listpages.proofs.Outs.{list-begun, list_at, list-grown, list-turn, list-ended}
+use Rattle.listpages.proofs.Outs.{list_begun, list_at, list-grown, list-turn, list_ended}
 use Prim.Native.Nat.{◌-◌, ◌≤◌}
 use native.Mathlib.Omega.{arith}
 use Rattle.listpages.proofs.listing_trace.join_lines.Reads as reads
@@ -11,7 +11,7 @@ use Rattle.listpages.proofs.listing_trace.line_word.Reads as line-word-reads
 use Rattle.listpages.proofs.listing_trace.join_lines.Goals as goal
 
 pub loop-i-init : goal.loop-i-init
-loop-i-init c = (omega arith, list-begun c.args.words.now c.args.text.now c.requires)
+loop-i-init c = (omega arith, list_begun c.args.words.now c.args.text.now c.requires)
 
 pub line_word-word-requires : goal.line_word-word-requires
 line_word-word-requires c = omega (arith, c.loop-i-test.true)
@@ -32,4 +32,4 @@ pub shape_of-text : goal.shape_of-text
 shape_of-text c = c.loop-i.invariant.1.long
 
 pub returns : goal.returns
-returns c = list-ended c.args.words.now c.args.text.now c.requires c.loop-i.text c.loop-i.at c.loop-i.waits c.loop-i.i c.loop-i.invariant.1 c.loop-i-test.false
+returns c = list_ended c.args.words.now c.args.text.now c.requires c.loop-i.text c.loop-i.at c.loop-i.waits c.loop-i.i c.loop-i.invariant.1 c.loop-i-test.false

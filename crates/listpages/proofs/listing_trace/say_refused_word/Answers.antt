@@ -1,5 +1,5 @@
 -- `listpages::listing_trace::say_refused_word` meets its contract.
-use Rattle.listpages.proofs.Outs.{made_in, makes_long, said_begun, said-word, said-next, said-none}
+use Rattle.listpages.proofs.Outs.{made_in, makes_long, said_begun, said-word, said-next, said_none}
 use Rattle.listpages.specs.Listing.{list_said}
 use Rattle.lines.proofs.Answered.{makes_as, nothing_made}
 use Rattle.run.specs.Splitting.{cycles_in}
@@ -34,4 +34,4 @@ pub shape_of-said : goal.shape_of-said
 shape_of-said c = ap length c.loop-i.invariant.2
 
 pub returns : goal.returns
-returns c = makes_as (said-none c.args.words.now (cycles_in (length c.args.words.now)) c.loop-i.i c.loop-i.waits (list_said c.args.words.now) c.loop-i.invariant.1 c.loop-i-test.false) (made_in c.loop-i.invariant.2 (nothing_made c.loop-i.said))
+returns c = makes_as (said_none c.args.words.now (cycles_in (length c.args.words.now)) c.loop-i.i c.loop-i.waits (list_said c.args.words.now) c.loop-i.invariant.1 c.loop-i-test.false) (made_in c.loop-i.invariant.2 (nothing_made c.loop-i.said))

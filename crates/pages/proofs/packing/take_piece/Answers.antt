@@ -20,7 +20,7 @@ pub loop-from-preserved-in-TextEnd : goal.loop-from-preserved-in-TextEnd
 loop-from-preserved-in-TextEnd c = at-end _ _ _ _ _ _ _ _ _ _ c.loop-from.invariant _ _ c.take-taken.ensures (search rules) (left_some c.args.piece.now c.loop-from.from _ _ _ _ c.loop-from-test.true c.take-taken.ensures).1 c.in-TextEnd.is
 
 pub name_fault-end-requires : goal.name_fault-end-requires
-name_fault-end-requires c = (omega (arith, c.loop-from.invariant.by_most, c.loop-from.invariant.same-said, c.requires), λ q. omega (arith, ltb-true c.loop-from.state.faults 20 q, c.loop-from.invariant.by-faults, c.loop-from.invariant.same-said, c.requires))
+name_fault-end-requires c = (omega (arith, c.loop-from.invariant.by_most, c.loop-from.invariant.same_said, c.requires), λ q. omega (arith, ltb-true c.loop-from.state.faults 20 q, c.loop-from.invariant.by_faults, c.loop-from.invariant.same_said, c.requires))
 
 pub loop-from-smaller : goal.loop-from-smaller
 loop-from-smaller c = omega (arith, left_some c.args.piece.now c.loop-from.from _ _ _ _ c.loop-from-test.true c.take-taken.ensures, c.loop-from-test.true)
@@ -29,7 +29,7 @@ pub loop-from-preserved : goal.loop-from-preserved
 loop-from-preserved c = after-fault _ _ _ _ _ _ _ _ _ _ c.loop-from.invariant _ _ c.take-taken.ensures (search rules) (left_some c.args.piece.now c.loop-from.from _ _ _ _ c.loop-from-test.true c.take-taken.ensures).1 _ c.in-Bad.is _ _ c.name_fault-end.ensures (search rules)
 
 pub shape_of-said : goal.shape_of-said
-shape_of-said c = c.loop-from.invariant.same-said
+shape_of-said c = c.loop-from.invariant.same_said
 
 pub returns : goal.returns
 returns c = ends _ _ _ _ _ _ _ _ _ _ c.loop-from.invariant c.loop-from-test.false

@@ -6,7 +6,7 @@ use native.Mathlib.Omega.{arith}
 use lib.ListN.{get_or}
 use Rattle.lines.specs.Pages.{page_of}
 use Rattle.lines.specs.Putting.{Puts}
-use Rattle.pages.proofs.Together.{begun, at-le, turn, grown, ended}
+use Rattle.pages.proofs.Together.{begun, at_le, turn, grown, ended}
 use Rattle.pages.proofs.Longest.{page_lines, page_room}
 use Rattle.pages.proofs.running.join_page.Goals as goal
 
@@ -14,10 +14,10 @@ pub loop-i-init : goal.loop-i-init
 loop-i-init c = begun (λ (k : ℕ). get_or (page_of c.args.ran c.args.reports.now) k []) _ _
 
 pub slice_bounds-page_line-count : goal.slice_bounds-page_line-count
-slice_bounds-page_line-count c = at-le (λ (k : ℕ). get_or (page_of c.args.ran c.args.reports.now) k []) c.loop-i.invariant (page_room c.args.ran c.args.reports.now c.args.page.now c.requires.1)
+slice_bounds-page_line-count c = at_le (λ (k : ℕ). get_or (page_of c.args.ran c.args.reports.now) k []) c.loop-i.invariant (page_room c.args.ran c.args.reports.now c.args.page.now c.requires.1)
 
 pub slice_bounds-page_line-start : goal.slice_bounds-page_line-start
-slice_bounds-page_line-start c = at-le (λ (k : ℕ). get_or (page_of c.args.ran c.args.reports.now) k []) c.loop-i.invariant (page_room c.args.ran c.args.reports.now c.args.page.now c.requires.1)
+slice_bounds-page_line-start c = at_le (λ (k : ℕ). get_or (page_of c.args.ran c.args.reports.now) k []) c.loop-i.invariant (page_room c.args.ran c.args.reports.now c.args.page.now c.requires.1)
 
 pub overflow_add-at : goal.overflow_add-at
 overflow_add-at c = omega (arith, c.bytes_in-at.ensures, grown (λ (k : ℕ). get_or (page_of c.args.ran c.args.reports.now) k []) c.loop-i.invariant (page_room c.args.ran c.args.reports.now c.args.page.now c.requires.1) c.loop-i-test.true _ _ c.page_line-line.ensures)

@@ -5,7 +5,7 @@ use Prim.Native.Nat.{ℕ, ◌-◌}
 use native.Mathlib.Omega.{arith}
 use Rattle.lines.specs.Words.{words_line}
 use Rattle.lines.specs.Putting.{Puts}
-use Rattle.pages.proofs.Together.{begun, at-le, turn, grown, ended}
+use Rattle.pages.proofs.Together.{begun, at_le, turn, grown, ended}
 use Rattle.pages.proofs.Longest.{all_text, text_room}
 use Rattle.pages.proofs.unpacking.join_words.Goals as goal
 
@@ -13,10 +13,10 @@ pub loop-i-init : goal.loop-i-init
 loop-i-init c = begun (words_line c.args.words.now) _ _
 
 pub slice_bounds-words_line-count : goal.slice_bounds-words_line-count
-slice_bounds-words_line-count c = at-le (words_line c.args.words.now) c.loop-i.invariant (text_room c.args.words.now c.args.text.now c.requires)
+slice_bounds-words_line-count c = at_le (words_line c.args.words.now) c.loop-i.invariant (text_room c.args.words.now c.args.text.now c.requires)
 
 pub slice_bounds-words_line-start : goal.slice_bounds-words_line-start
-slice_bounds-words_line-start c = at-le (words_line c.args.words.now) c.loop-i.invariant (text_room c.args.words.now c.args.text.now c.requires)
+slice_bounds-words_line-start c = at_le (words_line c.args.words.now) c.loop-i.invariant (text_room c.args.words.now c.args.text.now c.requires)
 
 pub overflow_add-at : goal.overflow_add-at
 overflow_add-at c = omega (arith, c.bytes_in-at.ensures, grown (words_line c.args.words.now) c.loop-i.invariant (text_room c.args.words.now c.args.text.now c.requires) c.loop-i-test.true _ _ c.words_line-line.ensures)

@@ -1,8 +1,8 @@
 -- `trace::checking::check_byte` meets its contract: the one expression is eight steps.
 use mathlib.Core.Path.{sym}
 use borrow.Author.Rules.{rules}
-use Rattle.trace.proofs.Passes.{pass-is}
+use Rattle.trace.proofs.Passes.{pass_is}
 use Rattle.trace.proofs.checking.check_byte.Goals as goal
 
 pub returns : goal.returns
-returns c = sym (pass-is c.args.register c.args.byte (search rules) (search rules))
+returns c = sym (pass_is c.args.register c.args.byte (search rules) (search rules))

@@ -4,13 +4,13 @@ use Prim.Native.Nat.{◌-◌}
 use native.Mathlib.Omega.{arith}
 use lib.ListN.{length-take, length-drop}
 use Rattle.trace.proofs.Parts.{block_long}
-use Rattle.trace.proofs.Judged.{judged-all}
-use Rattle.trace.proofs.Copied.{begins, again, count-here, room-here, ends}
+use Rattle.trace.proofs.Judged.{judged_all}
+use Rattle.trace.proofs.Copied.{begins, again, count_here, room_here, ends}
 use Rattle.trace.proofs.copying.copy_all.Goals as goal
 
 pub loop-k-init : goal.loop-k-init
 loop-k-init c =
-    begins 3 c.args.blocks c.args.records c.args.trace.now c.args.cycles.now (judged-all 3 c.args.blocks c.args.trace.now ∙ c.requires.2)
+    begins 3 c.args.blocks c.args.records c.args.trace.now c.args.cycles.now (judged_all 3 c.args.blocks c.args.trace.now ∙ c.requires.2)
 
 pub overflow_mul-at : goal.overflow_mul-at
 overflow_mul-at c = omega arith
@@ -29,17 +29,17 @@ slice_bounds-copy_block-end c = omega arith
 
 pub offset_bounds-cycles-filled : goal.offset_bounds-cycles-filled
 offset_bounds-cycles-filled c =
-    let room = room-here c.loop-k.invariant c.requires.1 c.requires.3 c.loop-k-test.true in
+    let room = room_here c.loop-k.invariant c.requires.1 c.requires.3 c.loop-k-test.true in
     omega (arith, room)
 
 pub slice_bounds-copy_block-count-in-loop-k : goal.slice_bounds-copy_block-count-in-loop-k
 slice_bounds-copy_block-count-in-loop-k c =
-    let room = room-here c.loop-k.invariant c.requires.1 c.requires.3 c.loop-k-test.true in
+    let room = room_here c.loop-k.invariant c.requires.1 c.requires.3 c.loop-k-test.true in
     omega (arith, room)
 
 pub slice_bounds-copy_block-start-in-loop-k : goal.slice_bounds-copy_block-start-in-loop-k
 slice_bounds-copy_block-start-in-loop-k c =
-    let room = room-here c.loop-k.invariant c.requires.1 c.requires.3 c.loop-k-test.true in
+    let room = room_here c.loop-k.invariant c.requires.1 c.requires.3 c.loop-k-test.true in
     omega (arith, room)
 
 pub slice_bounds-copy_block-end-in-loop-k : goal.slice_bounds-copy_block-end-in-loop-k
@@ -47,15 +47,15 @@ slice_bounds-copy_block-end-in-loop-k c = omega arith
 
 pub copy_block-filled-requires : goal.copy_block-filled-requires
 copy_block-filled-requires c =
-    let room = room-here c.loop-k.invariant c.requires.1 c.requires.3 c.loop-k-test.true in (
+    let room = room_here c.loop-k.invariant c.requires.1 c.requires.3 c.loop-k-test.true in (
       block_long c.loop-k.k c.args.blocks c.args.trace.now c.loop-k-test.true c.requires.1,
-      count-here c.loop-k.invariant c.requires.1 c.requires.3 c.loop-k-test.true,
+      count_here c.loop-k.invariant c.requires.1 c.requires.3 c.loop-k-test.true,
       simp (length-take, length-drop) (omega (arith, room)),
     )
 
 pub overflow_add-filled : goal.overflow_add-filled
 overflow_add-filled c =
-    let room = room-here c.loop-k.invariant c.requires.1 c.requires.3 c.loop-k-test.true in
+    let room = room_here c.loop-k.invariant c.requires.1 c.requires.3 c.loop-k-test.true in
     omega (arith, room, c.copy_block-filled.ensures.0)
 
 pub overflow_add-k : goal.overflow_add-k

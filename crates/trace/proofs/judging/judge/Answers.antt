@@ -3,7 +3,7 @@ use mathlib.Core.Path.{◌≡◌, refl, sym, ◌∙◌}
 use Prim.Native.Nat.{◌-◌, ◌*◌, ◌≤◌}
 use native.Mathlib.Omega.{arith}
 use Rattle.trace.proofs.Parts.{block_long}
-use Rattle.trace.proofs.Judged.{judged-all, judged-end, judged-refused, judged-sound, count_at}
+use Rattle.trace.proofs.Judged.{judged_all, judged_end, judged-refused, judged-sound, count_at}
 use Rattle.trace.proofs.judging.judge.Goals as goal
 
 pub loop-k-init : goal.loop-k-init
@@ -37,7 +37,7 @@ pub returns-then-number-ne0 : goal.returns-then-number-ne0
 returns-then-number-ne0 c =
     let loop = c.loop-k in
     judged-refused 3 c.args.blocks c.args.trace.now loop.k loop.records c.loop-k-test.true c.block_refusal-number.result c.block_refusal-number.ensures c.if-number-ne0.true
-    ∙ loop.invariant.2 ∙ judged-all 3 c.args.blocks c.args.trace.now
+    ∙ loop.invariant.2 ∙ judged_all 3 c.args.blocks c.args.trace.now
 
 pub overflow_add-at-in-loop-k : goal.overflow_add-at-in-loop-k
 overflow_add-at-in-loop-k c = omega arith
@@ -70,4 +70,4 @@ loop-k-preserved c =
 pub returns : goal.returns
 returns c =
     let loop = c.loop-k in
-    sym (judged-end 3 c.args.blocks c.args.trace.now loop.k loop.records (omega arith)) ∙ loop.invariant.2 ∙ judged-all 3 c.args.blocks c.args.trace.now
+    sym (judged_end 3 c.args.blocks c.args.trace.now loop.k loop.records (omega arith)) ∙ loop.invariant.2 ∙ judged_all 3 c.args.blocks c.args.trace.now
