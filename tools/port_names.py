@@ -25,7 +25,7 @@ TOKEN = re.compile(r'[^\s(){}\[\];,."`⌜⌝λ→×]+')
 
 
 def snake(name):
-    name = name.replace('-', '_')
+    name = re.sub(r'(?<=[a-z0-9])[A-Z]{2}(?=[a-z])', lambda m: ''.join('_' + letter.lower() for letter in m.group(0)), name.replace('-', '_'))
     return re.sub(r'(?<=[a-z0-9])[A-Z]+(?![a-z])|(?<=[a-z0-9])[A-Z]', lambda m: '_' + m.group(0).lower(), name)
 
 
@@ -96,7 +96,7 @@ def main():
     laws = LAWS if first else []
     names, fields = gathered()
     words = set(names) | fields | set(laws)
-    plain = {snake(n) for n in words if n[0].islower() and '-' not in n}
+    plain = {snake(n) for n in words if n[0].islower() and '-' not in n and n not in FACTS}
     table = {n: respelled(n, plain, laws) for n in words}
     table = {old: new for old, new in table.items() if old != new}
     together = collections.defaultdict(set)
