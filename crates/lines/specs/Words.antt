@@ -1,7 +1,7 @@
 -- A trace as text: one line of hex words per cycle, and what is said of a line that cannot be read. Document 01 says nothing of traces as
 -- text: the form is ours (docs/DECISIONS.md).
 use Prim.{Unit}
-use Rattle.std.specs.Prelude.{ℕ, zero, suc, ◌*◌, ◌/◌, ◌<◌, ◌+◌, List, [], ◌∷◌, ◌++◌, ltb, length, take, drop}
+use Rattle.std.specs.Prelude.{ℕ, zero, suc, ◌*◌, ◌/◌, ◌<◌, List, [], ◌∷◌, ◌++◌, ltb, length, take, drop}
 use Rattle.choice.specs.Pick.{pick}
 use Rattle.choice.specs.Text.{newline, blank, hex, decimal}
 use Rattle.text.specs.declared.Expected.{Expected}

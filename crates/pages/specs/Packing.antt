@@ -1,5 +1,5 @@
 -- What `packtrace` makes of a text, and what it says of it. Document 01 says nothing of traces as text: the form is ours (docs/DECISIONS.md).
-use Rattle.std.specs.Prelude.{◌≡◌, ℕ, ◌-◌, ◌+◌, Bool, false, List, [], ◌∷◌, ◌++◌, eqb, ltb, length, take, get_or, drop}
+use Rattle.std.specs.Prelude.{◌≡◌, ℕ, ◌-◌, Bool, false, List, [], ◌∷◌, ◌++◌, eqb, ltb, length, take, get_or, drop}
 use Rattle.choice.specs.Pick.{pick}
 use Rattle.choice.specs.Tells.{Placed}
 use Rattle.text.specs.declared.Reader.{Reader}

@@ -10,7 +10,7 @@ use lib.Dec.{T}
 use lib.ListN.{length, take, drop, length-drop}
 use lib.Seq.{take-append-le, drop-append-le, drop_at}
 use borrow.Author.Tests.{ne_eqb}
-use Rattle.choice.specs.Tells.{Tells, accepted, refused, Placed}
+use Rattle.choice.specs.Tells.{Tells, refused, Placed}
 use Rattle.choice.proofs.Tells.{whole_one, refused_at_one, whole_refused}
 use Rattle.machine.specs.declared.Machine.{Machine}
 use Rattle.machine.specs.Judging.{may_start}

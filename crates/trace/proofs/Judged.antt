@@ -10,7 +10,7 @@ use lib.ListN.{length, drop, get_or}
 use lib.Seq.{get_or-drop, get_or-take}
 use borrow.Author.Tests.{eqb-true, eq-eqb, ne_eqb}
 use Rattle.choice.specs.Pick.{pick}
-use Rattle.choice.specs.Tells.{Placed, accepted, accepted_whole, refused_at}
+use Rattle.choice.specs.Tells.{Placed, accepted_whole, refused_at}
 use Rattle.choice.proofs.Tells.{whole_one, whole_refused}
 use Rattle.trace.specs.Layout.{part}
 use Rattle.trace.specs.Blocks.{count_of, block_refusal}

@@ -1,12 +1,12 @@
 -- The reader: a trace into cycle words (document 01, runs, blocks and refusal numbers).
-use Rattle.std.specs.Prelude.{ℕ, zero, suc, ◌+◌, ◌-◌, ◌*◌, ◌/◌, ◌%◌, not, List, [], ◌∷◌, map, length, take, drop, eqb, ltb}
+use Rattle.std.specs.Prelude.{ℕ, zero, suc, ◌+◌, ◌*◌, ◌/◌, ◌%◌, not, List, [], ◌∷◌, map, length, take, drop, eqb, ltb}
 use Rattle.choice.specs.Pick.{pick}
 use Rattle.choice.specs.Checks.{Check, check, refusal}
 use Rattle.choice.specs.Tells.{Placed, accepted_whole, refused_at}
 use Rattle.trace.specs.declared.Filled.{Filled}
 use Rattle.run.specs.Runs.{most_cycles}
 use Rattle.trace.specs.Limits.{most_blocks}
-use Rattle.trace.specs.Layout.{words_per_record, block_bytes, block_words, joined}
+use Rattle.trace.specs.Layout.{words_per_record, block_bytes, joined}
 use Rattle.trace.specs.Blocks.{count_of, block_refusal, record_words}
 use Rattle.trace.specs.Answers.{or_refused, Fills}
 

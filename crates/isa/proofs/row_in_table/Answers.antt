@@ -1,6 +1,5 @@
 -- `isa::row_in_table` meets its contract: before each row none was found, and each way out has its law in proofs/Found.
 use mathlib.Core.Path.{◌∙◌, ap}
-use Prim.Native.Nat.{◌-◌}
 use Rattle.isa.specs.declared.Row.{Row}
 use Rattle.isa.specs.Decision.{takes_word}
 use Rattle.isa.proofs.Found.{past_start, row_found, row_past, row_missed}

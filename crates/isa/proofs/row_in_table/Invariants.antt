@@ -1,5 +1,4 @@
 -- `isa::row_in_table` meets its contract: before each row none was found, and each way out has its law in proofs/Found.
-use mathlib.Core.Path.{◌∙◌}
 use Prim.Native.Nat.{◌-◌}
 use Rattle.isa.specs.Table.{no_row}
 use Rattle.isa.proofs.Found.{Past}

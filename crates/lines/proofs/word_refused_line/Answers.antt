@@ -1,9 +1,6 @@
 -- `lines::word_refused_line` meets its contract: a counted line.
 -- src/lib.rt:147:18
 use Rattle.lines.specs.Lines.{word_refused_line}
-use Rattle.lines.proofs.word_refused_line.Reads as reads
-use Rattle.lines.proofs.word_refused_line.Lts as lts
-use Rattle.lines.proofs.counted_line.Reads as counted-line-reads
 use Rattle.lines.proofs.word_refused_line.Goals as goal
 
 pub returns : goal.returns

@@ -5,10 +5,6 @@ use Rattle.listing.specs.Keys.{text_of_key}
 use lib.Seq.{sets}
 use native.Mathlib.Omega.{arith}
 use mathlib.Core.Path.{ap, ◌∙◌}
-use Rattle.listing.proofs.data_line.Reads as reads
-use Rattle.listing.proofs.data_line.Lts as lts
-use Rattle.listing.proofs.digits.key_of_data.Reads as key-of-data-reads
-use Rattle.listing.proofs.writing.put.Reads as put_reads
 use Rattle.listing.proofs.data_line.Goals as goal
 
 pub returns-then-out-lt-DATA_BYTES : goal.returns-then-out-lt-DATA_BYTES

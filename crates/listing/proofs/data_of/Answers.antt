@@ -6,10 +6,6 @@ use Rattle.listing.specs.Reading.{items_at}
 use Rattle.listing.specs.Lines.{past_of}
 use Rattle.choice.specs.Tells.{accepted_whole, refused_at}
 use mathlib.Core.Path.{sym, ap, ◌∙◌}
-use Rattle.listing.proofs.data_of.Reads as reads
-use Rattle.listing.proofs.data_of.Lts as lts
-use Rattle.listing.proofs.digits.data_at.Reads as data-at-reads
-use Rattle.listing.proofs.items.next.Reads as next-reads
 use Rattle.listing.proofs.data_of.Goals as goal
 
 pub returns-then-item-ne-DATA_BYTES : goal.returns-then-item-ne-DATA_BYTES

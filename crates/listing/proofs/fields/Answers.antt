@@ -1,15 +1,6 @@
 -- `listing::fields` meets its contract.
 -- src/lib.rt:142:9
 use Rattle.listing.proofs.Ways.{value_bound, way_a, way-b, way-c, way_end}
-use Rattle.listing.proofs.fields.Reads as reads
-use Rattle.listing.proofs.fields.Lts as lts
-use Rattle.isa.proofs.numbered_row.Reads as numbered-row-reads
-use Rattle.listing.proofs.finish.Reads as finish-reads
-use Rattle.listing.proofs.mode_of.Reads as mode-of-reads
-use Rattle.listing.proofs.places.place_a.Reads as place-a-reads
-use Rattle.listing.proofs.places.place_b.Reads as place-b-reads
-use Rattle.listing.proofs.places.place_c.Reads as place-c-reads
-use Rattle.listing.proofs.reading.field.Reads as field-reads
 use Rattle.listing.proofs.fields.Goals as goal
 
 pub field-requires-in-Value : goal.field-requires-in-Value

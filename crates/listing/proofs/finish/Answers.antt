@@ -8,10 +8,6 @@ use Rattle.isa.specs.Words.{encoded_tells}
 use Rattle.listing.specs.Lines.{encoded}
 use Rattle.listing.specs.Reading.{items_at}
 use Rattle.listing.proofs.Finds.{ended_left, ended_none}
-use Rattle.listing.proofs.finish.Reads as reads
-use Rattle.listing.proofs.finish.Lts as lts
-use Rattle.isa.proofs.encode.Reads as encode-reads
-use Rattle.listing.proofs.items.next.Reads as next-reads
 use Rattle.listing.proofs.finish.Goals as goal
 
 pub returns-then-item : goal.returns-then-item

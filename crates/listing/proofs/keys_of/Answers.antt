@@ -1,14 +1,6 @@
 -- `listing::keys_of` meets its contract.
 -- src/lib.rt:88:9
 use Rattle.listing.proofs.Prints.{keys_are}
-use Rattle.listing.proofs.keys_of.Reads as reads
-use Rattle.listing.proofs.keys_of.Lts as lts
-use Rattle.isa.proofs.number_of.Reads as number-of-reads
-use Rattle.listing.proofs.finding.key_of.Reads as key-of-reads
-use Rattle.listing.proofs.mark_for.Reads as mark-for-reads
-use Rattle.listing.proofs.places.place_a.Reads as place-a-reads
-use Rattle.listing.proofs.places.place_b.Reads as place-b-reads
-use Rattle.listing.proofs.places.place_c.Reads as place-c-reads
 use Rattle.listing.proofs.keys_of.Goals as goal
 
 pub returns : goal.returns

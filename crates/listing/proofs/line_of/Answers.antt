@@ -8,12 +8,6 @@ use lib.Seq.{sets}
 use lib.ListN.{length}
 use native.Mathlib.Omega.{arith}
 use mathlib.Core.Path.{sym, ap, ◌∙◌}
-use Rattle.listing.proofs.line_of.Reads as reads
-use Rattle.listing.proofs.line_of.Lts as lts
-use Rattle.isa.proofs.decode.Reads as decode-reads
-use Rattle.listing.proofs.keys_of.Reads as keys-of-reads
-use Rattle.listing.proofs.writing.line_size.Reads as line-size-reads
-use Rattle.listing.proofs.writing.put_line.Reads as put-line-reads
 use Rattle.listing.proofs.line_of.Goals as goal
 
 pub returns-then-out-size : goal.returns-then-out-size

@@ -1,8 +1,6 @@
 -- `listing::mode_of` meets its contract.
 -- src/lib.rt:173:1
 use borrow.Author.Tests.{eq-eqb, ne_eqb}
-use Rattle.listing.proofs.mode_of.Reads as reads
-use Rattle.listing.proofs.mode_of.Lts as lts
 use Rattle.listing.proofs.mode_of.Goals as goal
 
 pub returns-then-mark-eq0 : goal.returns-then-mark-eq0

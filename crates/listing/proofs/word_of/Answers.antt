@@ -1,10 +1,6 @@
 -- `listing::word_of` meets its contract.
 -- src/lib.rt:170:11
 use Rattle.listing.proofs.Ways.{value_bound, family_bound, way_family, way_mode, way_word}
-use Rattle.listing.proofs.word_of.Reads as reads
-use Rattle.listing.proofs.word_of.Lts as lts
-use Rattle.listing.proofs.fields.Reads as fields-reads
-use Rattle.listing.proofs.reading.expect.Reads as expect-reads
 use Rattle.listing.proofs.word_of.Goals as goal
 
 pub expect-requires-in-Value : goal.expect-requires-in-Value

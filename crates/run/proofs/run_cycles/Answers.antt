@@ -1,6 +1,5 @@
 -- `run::run_cycles` meets its contract: `Before` holds before each cycle, and each way out has its law in proofs/Loop.
 use mathlib.Core.Path.{ap, ◌∙◌}
-use Prim.Native.Nat.{◌-◌}
 use native.Mathlib.Omega.{arith}
 use Rattle.choice.proofs.Tells.{tells_accepted, tells_refused}
 use Rattle.machine.specs.Cycles.{cycle_of}

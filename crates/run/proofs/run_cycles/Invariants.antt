@@ -1,5 +1,4 @@
 -- `run::run_cycles` meets its contract: `Before` holds before each cycle, and each way out has its law in proofs/Loop.
-use mathlib.Core.Path.{◌∙◌}
 use Prim.Native.Nat.{◌-◌}
 use Rattle.machine.specs.Stepping.{machine_from}
 use Rattle.run.proofs.Loop.{Before}

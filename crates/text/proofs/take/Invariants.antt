@@ -1,5 +1,5 @@
 -- `text::take` meets its contract: what is left to take, from where it stands, comes to the same as all of it.
-use mathlib.Core.Path.{◌≡◌, ◌∙◌}
+use mathlib.Core.Path.{◌≡◌}
 use Prim.Native.Nat.{◌-◌, ◌≤◌}
 use lib.ListN.{length, drop}
 use Rattle.text.specs.Taking.{take_from}

@@ -1,6 +1,6 @@
 -- `trace::check` meets its contract: the fold of the bytes still to come, from the register so far, is the check of all.
-use mathlib.Core.Path.{◌≡◌, ◌∙◌}
-use Prim.Native.Nat.{◌+◌, ◌-◌, ◌≤◌, ◌<◌}
+use mathlib.Core.Path.{◌≡◌}
+use Prim.Native.Nat.{◌-◌, ◌≤◌}
 use lib.ListN.{length, drop}
 use Rattle.trace.specs.Check.{check_of}
 use Rattle.trace.specs.Folding.{fold_bytes}

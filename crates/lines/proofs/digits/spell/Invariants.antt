@@ -1,7 +1,7 @@
 -- `lines::digits::spell` meets its contract: the digits still to come, and those that stand, are all.
 use mathlib.Core.List.{◌++◌}
-use mathlib.Core.Path.{◌≡◌, ◌∙◌}
-use Prim.Native.Nat.{◌≤◌, ◌<◌, ◌%◌}
+use mathlib.Core.Path.{◌≡◌}
+use Prim.Native.Nat.{◌≤◌}
 use lib.ListN.{length, drop}
 use Rattle.choice.specs.Text.{numeral}
 use Rattle.lines.proofs.digits.spell.Given as goal

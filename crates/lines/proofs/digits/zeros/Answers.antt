@@ -1,6 +1,5 @@
 -- `lines::digits::zeros` meets its contract: the zeros so far are passed over.
-use mathlib.Core.Path.{◌≡◌, refl, ◌∙◌}
-use Prim.Native.Nat.{◌-◌, ◌<◌}
+use mathlib.Core.Path.{refl, ◌∙◌}
 use native.Mathlib.Omega.{arith}
 use Rattle.lines.proofs.Spelled.{zero_passed, digit_stops, last_stops}
 use Rattle.lines.proofs.digits.zeros.Goals as goal

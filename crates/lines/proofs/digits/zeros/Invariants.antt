@@ -1,5 +1,5 @@
 -- `lines::digits::zeros` meets its contract: the zeros so far are passed over.
-use mathlib.Core.Path.{◌≡◌, ◌∙◌}
+use mathlib.Core.Path.{◌≡◌}
 use Prim.Native.Nat.{◌-◌, ◌<◌}
 use lib.ListN.{length, drop}
 use Rattle.choice.specs.Text.{trimmed}

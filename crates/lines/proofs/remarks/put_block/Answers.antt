@@ -2,10 +2,6 @@
 -- src/remarks.rt:60:32
 use native.Mathlib.Omega.{arith}
 use Rattle.lines.proofs.Putting.{puts_both}
-use Rattle.lines.proofs.remarks.put_block.Reads as reads
-use Rattle.lines.proofs.remarks.put_block.Lts as lts
-use Rattle.lines.proofs.fields.put_text.Reads as put-text-reads
-use Rattle.lines.proofs.remarks.put_number.Reads as put-number-reads
 use Rattle.lines.proofs.remarks.put_block.Goals as goal
 
 pub returns : goal.returns

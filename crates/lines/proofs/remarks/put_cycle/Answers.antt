@@ -2,11 +2,6 @@
 -- src/remarks.rt:76:32
 use native.Mathlib.Omega.{arith}
 use Rattle.lines.proofs.Putting.{puts_both}
-use Rattle.lines.proofs.remarks.put_cycle.Reads as reads
-use Rattle.lines.proofs.remarks.put_cycle.Lts as lts
-use Rattle.lines.proofs.fields.put_text.Reads as put-text-reads
-use Rattle.lines.proofs.remarks.put_hex.Reads as put-hex-reads
-use Rattle.lines.proofs.remarks.put_number.Reads as put-number-reads
 use Rattle.lines.proofs.remarks.put_cycle.Goals as goal
 
 pub returns : goal.returns

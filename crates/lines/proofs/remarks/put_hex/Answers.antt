@@ -2,10 +2,6 @@
 -- src/remarks.rt:43:9
 use native.Mathlib.Omega.{arith}
 use Rattle.lines.proofs.Putting.{puts_both}
-use Rattle.lines.proofs.remarks.put_hex.Reads as reads
-use Rattle.lines.proofs.remarks.put_hex.Lts as lts
-use Rattle.lines.proofs.fields.put_text.Reads as put-text-reads
-use Rattle.lines.proofs.fields.put_word.Reads as put-word-reads
 use Rattle.lines.proofs.remarks.put_hex.Goals as goal
 
 pub returns : goal.returns

@@ -6,9 +6,6 @@ use mathlib.Core.List.{◌++◌}
 use Rattle.choice.specs.Text.{ascii}
 use Rattle.lines.specs.declared.Program.{Program}
 use Rattle.lines.specs.Remarks.{name_of}
-use Rattle.lines.proofs.remarks.put_name.Reads as reads
-use Rattle.lines.proofs.remarks.put_name.Lts as lts
-use Rattle.lines.proofs.fields.put_text.Reads as put-text-reads
 use Rattle.lines.proofs.remarks.put_name.Goals as goal
 
 pub returns-in-RunTrace : goal.returns-in-RunTrace

@@ -2,10 +2,6 @@
 -- src/remarks.rt:34:9
 use native.Mathlib.Omega.{arith}
 use Rattle.lines.proofs.Putting.{puts_both}
-use Rattle.lines.proofs.remarks.put_number.Reads as reads
-use Rattle.lines.proofs.remarks.put_number.Lts as lts
-use Rattle.lines.proofs.fields.put_decimal.Reads as put-decimal-reads
-use Rattle.lines.proofs.fields.put_text.Reads as put-text-reads
 use Rattle.lines.proofs.remarks.put_number.Goals as goal
 
 pub returns : goal.returns

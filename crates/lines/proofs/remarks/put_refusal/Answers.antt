@@ -2,10 +2,6 @@
 -- src/remarks.rt:109:28
 use native.Mathlib.Omega.{arith}
 use Rattle.lines.proofs.Putting.{puts_both}
-use Rattle.lines.proofs.remarks.put_refusal.Reads as reads
-use Rattle.lines.proofs.remarks.put_refusal.Lts as lts
-use Rattle.lines.proofs.remarks.put_number.Reads as put-number-reads
-use Rattle.lines.proofs.remarks.put_reason.Reads as put-reason-reads
 use Rattle.lines.proofs.remarks.put_refusal.Goals as goal
 
 pub returns : goal.returns

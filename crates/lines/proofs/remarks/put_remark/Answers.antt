@@ -3,12 +3,6 @@
 use native.Mathlib.Omega.{arith}
 use Rattle.lines.proofs.Putting.{puts_by}
 use Rattle.lines.specs.Remarks.{remark_text}
-use Rattle.lines.proofs.remarks.put_remark.Reads as reads
-use Rattle.lines.proofs.remarks.put_remark.Lts as lts
-use Rattle.lines.proofs.fields.put_text.Reads as put-text-reads
-use Rattle.lines.proofs.remarks.put_hex.Reads as put-hex-reads
-use Rattle.lines.proofs.remarks.put_number.Reads as put-number-reads
-use Rattle.lines.proofs.remarks.put_refusal.Reads as put-refusal-reads
 use Rattle.lines.proofs.remarks.put_remark.Goals as goal
 
 pub returns-in-NoInput : goal.returns-in-NoInput

@@ -2,9 +2,6 @@
 -- src/remarks.rt:52:34
 use native.Mathlib.Omega.{arith}
 use Rattle.lines.proofs.Putting.{puts_both}
-use Rattle.lines.proofs.remarks.put_whole.Reads as reads
-use Rattle.lines.proofs.remarks.put_whole.Lts as lts
-use Rattle.lines.proofs.fields.put_text.Reads as put-text-reads
 use Rattle.lines.proofs.remarks.put_whole.Goals as goal
 
 pub returns : goal.returns

@@ -4,11 +4,6 @@ use native.Mathlib.Omega.{arith}
 use lib.ListN.{length-take}
 use Rattle.lines.specs.Remarks.{remark_line}
 use Rattle.lines.proofs.Putting.{puts_both, line_made}
-use Rattle.lines.proofs.remarks.remark_line.Reads as reads
-use Rattle.lines.proofs.remarks.remark_line.Lts as lts
-use Rattle.lines.proofs.fields.hand_over.Reads as hand-over-reads
-use Rattle.lines.proofs.remarks.put_name.Reads as put-name-reads
-use Rattle.lines.proofs.remarks.put_remark.Reads as put-remark-reads
 use Rattle.lines.proofs.remarks.remark_line.Goals as goal
 
 pub slice_bounds-hand_over-end : goal.slice_bounds-hand_over-end

@@ -1,6 +1,5 @@
 -- `lines::words::put_words` meets its contract: word after word.
 use mathlib.Core.Path.{refl}
-use Prim.Native.Nat.{◌-◌}
 use native.Mathlib.Omega.{arith}
 use borrow.Author.Rules.{rules}
 use Rattle.lines.proofs.Worded.{one_more_word, all_worded}

@@ -1,9 +1,6 @@
 -- `listing::digits::data_at` meets its contract.
 -- src/digits.rt:54:22
 use Rattle.listing.proofs.Hex.{at_a, at_b, at_c, at-d, at-end}
-use Rattle.listing.proofs.digits.data_at.Reads as reads
-use Rattle.listing.proofs.digits.data_at.Lts as lts
-use Rattle.listing.proofs.digits.digit_of.Reads as digit-of-reads
 use Rattle.listing.proofs.digits.data_at.Goals as goal
 
 pub returns-then-a-ge-NO_DIGIT : goal.returns-then-a-ge-NO_DIGIT

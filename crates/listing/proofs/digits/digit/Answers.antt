@@ -2,8 +2,6 @@
 -- src/digits.rt:19:17
 use borrow.Author.Tests.{lt-ltb, le-ltb}
 use native.Mathlib.Omega.{arith}
-use Rattle.listing.proofs.digits.digit.Reads as reads
-use Rattle.listing.proofs.digits.digit.Lts as lts
 use Rattle.listing.proofs.digits.digit.Goals as goal
 
 pub returns-then-d-lt10 : goal.returns-then-d-lt10

@@ -1,8 +1,6 @@
 -- `listing::digits::digit_of` meets its contract.
 -- src/digits.rt:39:9
 use borrow.Author.Tests.{lt-ltb, le-ltb}
-use Rattle.listing.proofs.digits.digit_of.Reads as reads
-use Rattle.listing.proofs.digits.digit_of.Lts as lts
 use Rattle.listing.proofs.digits.digit_of.Goals as goal
 
 pub returns-then-byte-lt48 : goal.returns-then-byte-lt48

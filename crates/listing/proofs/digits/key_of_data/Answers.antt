@@ -1,9 +1,6 @@
 -- `listing::digits::key_of_data` meets its contract.
 -- src/digits.rt:26:5
 use Rattle.listing.proofs.Hex.{spelt_key}
-use Rattle.listing.proofs.digits.key_of_data.Reads as reads
-use Rattle.listing.proofs.digits.key_of_data.Lts as lts
-use Rattle.listing.proofs.digits.digit.Reads as digit-reads
 use Rattle.listing.proofs.digits.key_of_data.Goals as goal
 
 pub returns : goal.returns

@@ -1,12 +1,7 @@
 -- `listing::finding::find` meets its contract.
-use borrow.Author.Tests.{ltb-true, ltb-false}
 use Rattle.listing.proofs.Finds.{find_here, find_next, find_end}
 use native.Mathlib.Omega.{arith}
-use mathlib.Core.Path.{◌≡◌, refl}
-use Prim.Native.Nat.{◌-◌, ◌%◌, ◌≤◌}
-use Rattle.listing.proofs.finding.find.Reads as reads
-use Rattle.listing.proofs.finding.find.Lts as lts
-use Rattle.listing.proofs.names.entry.Reads as entry-reads
+use mathlib.Core.Path.{refl}
 use Rattle.listing.proofs.finding.find.Goals as goal
 
 pub loop-i-init : goal.loop-i-init

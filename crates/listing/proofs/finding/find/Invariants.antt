@@ -4,9 +4,6 @@ use Rattle.listing.specs.Keys.{value_by}
 use lib.ListN.{drop}
 use mathlib.Core.Path.{◌≡◌}
 use Prim.Native.Nat.{◌-◌, ◌%◌, ◌≤◌}
-use Rattle.listing.proofs.finding.find.Reads as reads
-use Rattle.listing.proofs.finding.find.Lts as lts
-use Rattle.listing.proofs.names.entry.Reads as entry-reads
 use Rattle.listing.proofs.finding.find.Given as goal
 
 abbrev pub invariant-loop-i : goal.invariant-loop-i

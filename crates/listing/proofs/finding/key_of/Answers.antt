@@ -1,12 +1,7 @@
 -- `listing::finding::key_of` meets its contract.
-use borrow.Author.Tests.{ltb-true, ltb-false}
 use Rattle.listing.proofs.Finds.{key_found, key_next, key_end}
 use native.Mathlib.Omega.{arith}
-use mathlib.Core.Path.{◌≡◌, refl}
-use Prim.Native.Nat.{◌-◌, ◌%◌, ◌≤◌}
-use Rattle.listing.proofs.finding.key_of.Reads as reads
-use Rattle.listing.proofs.finding.key_of.Lts as lts
-use Rattle.listing.proofs.names.entry.Reads as entry-reads
+use mathlib.Core.Path.{refl}
 use Rattle.listing.proofs.finding.key_of.Goals as goal
 
 pub loop-i-init : goal.loop-i-init

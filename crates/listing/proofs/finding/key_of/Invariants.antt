@@ -4,9 +4,6 @@ use Rattle.listing.specs.Keys.{key_in}
 use lib.ListN.{drop}
 use mathlib.Core.Path.{◌≡◌}
 use Prim.Native.Nat.{◌-◌, ◌%◌, ◌≤◌}
-use Rattle.listing.proofs.finding.key_of.Reads as reads
-use Rattle.listing.proofs.finding.key_of.Lts as lts
-use Rattle.listing.proofs.names.entry.Reads as entry-reads
 use Rattle.listing.proofs.finding.key_of.Given as goal
 
 abbrev pub invariant-loop-i : goal.invariant-loop-i

@@ -1,10 +1,7 @@
 -- `listing::items::item_end` meets its contract.
-use Prim.Native.Nat.{◌-◌}
 use native.Mathlib.Omega.{arith}
 use borrow.Author.Tests.{eq-eqb, ne_eqb}
 use Rattle.listing.proofs.Walks.{within_start, within_turn, within_blank, within_end}
-use Rattle.listing.proofs.items.item_end.Reads as reads
-use Rattle.listing.proofs.items.item_end.Lts as lts
 use Rattle.listing.proofs.items.item_end.Goals as goal
 
 pub loop-i-init : goal.loop-i-init

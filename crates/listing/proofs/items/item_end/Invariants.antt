@@ -2,8 +2,6 @@
 use Prim.Native.Nat.{◌-◌}
 use lib.ListN.{length}
 use Rattle.listing.proofs.Walks.{Within}
-use Rattle.listing.proofs.items.item_end.Reads as reads
-use Rattle.listing.proofs.items.item_end.Lts as lts
 use Rattle.listing.proofs.items.item_end.Given as goal
 
 abbrev pub invariant-loop-i : goal.invariant-loop-i

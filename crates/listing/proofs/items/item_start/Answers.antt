@@ -1,11 +1,8 @@
 -- `listing::items::item_start` meets its contract.
-use mathlib.Core.Path.{◌≡◌, refl}
-use Prim.Native.Nat.{◌-◌, ◌≤◌}
+use mathlib.Core.Path.{refl}
 use native.Mathlib.Omega.{arith}
 use borrow.Author.Tests.{eq-eqb, ne_eqb}
 use Rattle.listing.proofs.Walks.{blank_turn}
-use Rattle.listing.proofs.items.item_start.Reads as reads
-use Rattle.listing.proofs.items.item_start.Lts as lts
 use Rattle.listing.proofs.items.item_start.Goals as goal
 
 pub loop-i-init : goal.loop-i-init

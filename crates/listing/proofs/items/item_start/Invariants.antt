@@ -3,8 +3,6 @@ use mathlib.Core.Path.{◌≡◌}
 use Prim.Native.Nat.{◌-◌, ◌≤◌}
 use lib.ListN.{length}
 use Rattle.listing.specs.Reading.{items_at}
-use Rattle.listing.proofs.items.item_start.Reads as reads
-use Rattle.listing.proofs.items.item_start.Lts as lts
 use Rattle.listing.proofs.items.item_start.Given as goal
 
 abbrev pub invariant-loop-i : goal.invariant-loop-i

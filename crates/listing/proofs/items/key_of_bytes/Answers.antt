@@ -1,13 +1,10 @@
 -- `listing::items::key_of_bytes` meets its contract.
 use mathlib.Core.Path.{◌≡◌, ap, ◌∙◌}
-use Prim.Native.Nat.{ℕ, ◌-◌, ◌≤◌}
+use Prim.Native.Nat.{ℕ, ◌-◌}
 use lib.ListN.{take, drop}
 use native.Mathlib.Omega.{arith}
 use Rattle.listing.specs.Keys.{key_from}
 use Rattle.listing.proofs.Walks.{key_turn_down}
-use Rattle.listing.proofs.items.key_of_bytes.Reads as reads
-use Rattle.listing.proofs.items.key_of_bytes.Lts as lts
-use Rattle.listing.proofs.items.one_more.Reads as one-more-reads
 use Rattle.listing.proofs.items.key_of_bytes.Goals as goal
 
 pub loop-i-init : goal.loop-i-init

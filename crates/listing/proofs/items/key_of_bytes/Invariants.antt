@@ -1,11 +1,8 @@
 -- `listing::items::key_of_bytes` meets its contract.
-use mathlib.Core.Path.{◌≡◌, ◌∙◌}
+use mathlib.Core.Path.{◌≡◌}
 use Prim.Native.Nat.{◌-◌, ◌≤◌}
 use lib.ListN.{take, drop}
 use Rattle.listing.specs.Keys.{key_from}
-use Rattle.listing.proofs.items.key_of_bytes.Reads as reads
-use Rattle.listing.proofs.items.key_of_bytes.Lts as lts
-use Rattle.listing.proofs.items.one_more.Reads as one-more-reads
 use Rattle.listing.proofs.items.key_of_bytes.Given as goal
 
 abbrev pub invariant-loop-i : goal.invariant-loop-i

@@ -1,11 +1,6 @@
 -- `listing::items::next` meets its contract.
 -- src/reading.rt:86:9
 use Rattle.listing.proofs.Walks.{next_found, next_none}
-use Rattle.listing.proofs.items.next.Reads as reads
-use Rattle.listing.proofs.items.next.Lts as lts
-use Rattle.listing.proofs.items.item_end.Reads as item-end-reads
-use Rattle.listing.proofs.items.item_start.Reads as item-start-reads
-use Rattle.listing.proofs.items.key_of_bytes.Reads as key-of-bytes-reads
 use Rattle.listing.proofs.items.next.Goals as goal
 
 pub returns-then-start-line : goal.returns-then-start-line

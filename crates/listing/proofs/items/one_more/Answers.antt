@@ -2,8 +2,6 @@
 -- src/reading.rt:58:9
 use native.Mathlib.Omega.{arith}
 use borrow.Author.Tests.{eq-eqb, ne_eqb, lt-ltb, le-ltb}
-use Rattle.listing.proofs.items.one_more.Reads as reads
-use Rattle.listing.proofs.items.one_more.Lts as lts
 use Rattle.listing.proofs.items.one_more.Goals as goal
 
 pub returns-then-byte-eq0 : goal.returns-then-byte-eq0

@@ -2,15 +2,6 @@
 -- src/names.rt:320:14
 use Rattle.listing.proofs.Finds.{stretch, six}
 use native.Mathlib.Omega.{arith}
-use Rattle.listing.proofs.names.entry.Reads as reads
-use Rattle.listing.proofs.names.entry.Lts as lts
-use Rattle.listing.proofs.names.from_0.Reads as from-0-reads
-use Rattle.listing.proofs.names.from_128.Reads as from-128-reads
-use Rattle.listing.proofs.names.from_160.Reads as from-160-reads
-use Rattle.listing.proofs.names.from_192.Reads as from-192-reads
-use Rattle.listing.proofs.names.from_32.Reads as from-32-reads
-use Rattle.listing.proofs.names.from_64.Reads as from-64-reads
-use Rattle.listing.proofs.names.from_96.Reads as from-96-reads
 use Rattle.listing.proofs.names.entry.Goals as goal
 
 pub returns-in-0 : goal.returns-in-0

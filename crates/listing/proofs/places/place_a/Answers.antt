@@ -1,7 +1,5 @@
 -- `listing::places::place_a` meets its contract.
 -- src/places.rt:79:1
-use Rattle.listing.proofs.places.place_a.Reads as reads
-use Rattle.listing.proofs.places.place_a.Lts as lts
 use Rattle.listing.proofs.places.place_a.Goals as goal
 
 pub returns-in_default : goal.returns-in_default

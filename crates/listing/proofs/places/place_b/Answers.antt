@@ -1,7 +1,5 @@
 -- `listing::places::place_b` meets its contract.
 -- src/places.rt:115:1
-use Rattle.listing.proofs.places.place_b.Reads as reads
-use Rattle.listing.proofs.places.place_b.Lts as lts
 use Rattle.listing.proofs.places.place_b.Goals as goal
 
 pub returns-in_default : goal.returns-in_default

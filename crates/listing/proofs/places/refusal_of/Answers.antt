@@ -1,8 +1,6 @@
 -- `listing::places::refusal_of` meets its contract.
 -- src/places.rt:187:1
 use borrow.Author.Tests.{eq-eqb, ne_eqb, lt-ltb, le-ltb}
-use Rattle.listing.proofs.places.refusal_of.Reads as reads
-use Rattle.listing.proofs.places.refusal_of.Lts as lts
 use Rattle.listing.proofs.places.refusal_of.Goals as goal
 
 pub returns-then-place-eq0 : goal.returns-then-place-eq0

@@ -3,11 +3,6 @@
 use Rattle.listing.proofs.Finds.{step_value, step_none}
 use Rattle.listing.specs.Keys.{found_tells}
 use mathlib.Core.Path.{sym, ap, ◌∙◌}
-use Rattle.listing.proofs.reading.expect.Reads as reads
-use Rattle.listing.proofs.reading.expect.Lts as lts
-use Rattle.listing.proofs.finding.find.Reads as find-reads
-use Rattle.listing.proofs.items.next.Reads as next-reads
-use Rattle.listing.proofs.places.refusal_of.Reads as refusal-of-reads
 use Rattle.listing.proofs.reading.expect.Goals as goal
 
 pub returns-in-Value : goal.returns-in-Value

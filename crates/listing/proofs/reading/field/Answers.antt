@@ -2,11 +2,6 @@
 -- src/reading.rt:45:8
 use Rattle.listing.proofs.Finds.{field_left, field_written}
 use mathlib.Core.Path.{sym, ◌∙◌}
-use Rattle.listing.proofs.reading.field.Reads as reads
-use Rattle.listing.proofs.reading.field.Lts as lts
-use Rattle.listing.proofs.places.refusal_of.Reads as refusal-of-reads
-use Rattle.listing.proofs.reading.expect.Reads as expect-reads
-use Rattle.listing.proofs.reading.only_of.Reads as only-of-reads
 use Rattle.listing.proofs.reading.field.Goals as goal
 
 pub returns-then-refusal_of-eq0 : goal.returns-then-refusal_of-eq0

@@ -1,12 +1,10 @@
 -- `listing::reading::only_of` meets its contract.
 use Rattle.listing.proofs.Finds.{lowest_here, lowest_next, lowest_none}
 use Rattle.listing.specs.Lines.{lowest}
-use Prim.Native.Nat.{ℕ, ◌+◌, ◌-◌, ◌≤◌}
+use Prim.Native.Nat.{ℕ, ◌+◌, ◌-◌}
 use borrow.Author.Tests.{eq-eqb, ne_eqb}
 use native.Mathlib.Omega.{arith}
 use mathlib.Core.Path.{◌≡◌, refl, ap, ◌∙◌}
-use Rattle.listing.proofs.reading.only_of.Reads as reads
-use Rattle.listing.proofs.reading.only_of.Lts as lts
 use Rattle.listing.proofs.reading.only_of.Goals as goal
 
 pub loop-v-init : goal.loop-v-init

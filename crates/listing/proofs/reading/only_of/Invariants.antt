@@ -1,9 +1,7 @@
 -- `listing::reading::only_of` meets its contract.
 use Rattle.listing.specs.Lines.{lowest}
-use Prim.Native.Nat.{◌+◌, ◌-◌, ◌≤◌}
-use mathlib.Core.Path.{◌≡◌, ◌∙◌}
-use Rattle.listing.proofs.reading.only_of.Reads as reads
-use Rattle.listing.proofs.reading.only_of.Lts as lts
+use Prim.Native.Nat.{◌-◌, ◌≤◌}
+use mathlib.Core.Path.{◌≡◌}
 use Rattle.listing.proofs.reading.only_of.Given as goal
 
 abbrev pub invariant-loop-v : goal.invariant-loop-v

@@ -2,10 +2,6 @@
 -- src/lib.rt:109:5
 use native.Mathlib.Omega.{arith}
 use Rattle.listing.proofs.Bytes.{text_short, after_short, line_long}
-use Rattle.listing.proofs.writing.line_size.Reads as reads
-use Rattle.listing.proofs.writing.line_size.Lts as lts
-use Rattle.listing.proofs.writing.size.Reads as size-reads
-use Rattle.listing.proofs.writing.size_after.Reads as size-after-reads
 use Rattle.listing.proofs.writing.line_size.Goals as goal
 
 pub overflow_add-result : goal.overflow_add-result

@@ -1,12 +1,9 @@
 -- `listing::writing::put` meets its contract.
-use mathlib.Core.Path.{◌≡◌, refl, sym, ap, ◌∙◌}
-use Prim.Native.Nat.{◌+◌, ◌-◌, ◌/◌}
+use mathlib.Core.Path.{refl, sym, ap, ◌∙◌}
 use native.Mathlib.Omega.{arith}
 use lib.ListN.{length, length-set}
 use lib.Seq.{sets}
 use Rattle.listing.proofs.Bytes.{text_of_lem, none_left, no_bytes, first_byte, put_turn}
-use Rattle.listing.proofs.writing.put.Reads as reads
-use Rattle.listing.proofs.writing.put.Lts as lts
 use Rattle.listing.proofs.writing.put.Goals as goal
 
 pub loop-left-init : goal.loop-left-init

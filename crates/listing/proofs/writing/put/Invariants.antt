@@ -1,11 +1,9 @@
 -- `listing::writing::put` meets its contract.
-use mathlib.Core.Path.{◌≡◌, ◌∙◌}
-use Prim.Native.Nat.{◌+◌, ◌-◌, ◌/◌}
+use mathlib.Core.Path.{◌≡◌}
+use Prim.Native.Nat.{◌+◌}
 use lib.ListN.{length}
 use lib.Seq.{sets}
 use Rattle.listing.specs.Keys.{bytes_of, text_of_key}
-use Rattle.listing.proofs.writing.put.Reads as reads
-use Rattle.listing.proofs.writing.put.Lts as lts
 use Rattle.listing.proofs.writing.put.Given as goal
 
 abbrev pub invariant-loop-left : goal.invariant-loop-left

@@ -4,9 +4,6 @@ use mathlib.Core.Path.{refl, ap, ◌∙◌}
 use native.Mathlib.Omega.{arith}
 use lib.ListN.{length, length-set}
 use Rattle.listing.proofs.Bytes.{no_key_lem, some_key, after_put, puts_long}
-use Rattle.listing.proofs.writing.put_after.Reads as reads
-use Rattle.listing.proofs.writing.put_after.Lts as lts
-use Rattle.listing.proofs.writing.put.Reads as put_reads
 use Rattle.listing.proofs.writing.put_after.Goals as goal
 
 pub returns-then-key-eq0 : goal.returns-then-key-eq0

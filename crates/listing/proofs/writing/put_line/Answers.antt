@@ -1,10 +1,6 @@
 -- `listing::writing::put_line` meets its contract.
 -- src/lib.rt:116:9
 use Rattle.listing.proofs.Bytes.{room_0, room_1, room-2, room-3, room-4, all-put}
-use Rattle.listing.proofs.writing.put_line.Reads as reads
-use Rattle.listing.proofs.writing.put_line.Lts as lts
-use Rattle.listing.proofs.writing.put.Reads as put_reads
-use Rattle.listing.proofs.writing.put_after.Reads as put-after-reads
 use Rattle.listing.proofs.writing.put_line.Goals as goal
 
 pub put-at-requires : goal.put-at-requires

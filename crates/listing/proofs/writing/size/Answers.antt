@@ -1,11 +1,8 @@
 -- `listing::writing::size` meets its contract.
-use mathlib.Core.Path.{◌≡◌, ap}
-use Prim.Native.Nat.{◌+◌, ◌-◌, ◌/◌, ◌≤◌}
+use mathlib.Core.Path.{ap}
 use native.Mathlib.Omega.{arith}
 use lib.ListN.{length}
 use Rattle.listing.proofs.Bytes.{text_of_lem, none_left, no_bytes, first_byte}
-use Rattle.listing.proofs.writing.size.Reads as reads
-use Rattle.listing.proofs.writing.size.Lts as lts
 use Rattle.listing.proofs.writing.size.Goals as goal
 
 pub loop-left-init : goal.loop-left-init

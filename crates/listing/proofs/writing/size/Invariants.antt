@@ -1,10 +1,8 @@
 -- `listing::writing::size` meets its contract.
 use mathlib.Core.Path.{◌≡◌}
-use Prim.Native.Nat.{◌+◌, ◌-◌, ◌/◌, ◌≤◌}
+use Prim.Native.Nat.{◌+◌, ◌-◌, ◌≤◌}
 use lib.ListN.{length}
 use Rattle.listing.specs.Keys.{bytes_of, key_bytes, text_of_key}
-use Rattle.listing.proofs.writing.size.Reads as reads
-use Rattle.listing.proofs.writing.size.Lts as lts
 use Rattle.listing.proofs.writing.size.Given as goal
 
 abbrev pub invariant-loop-left : goal.invariant-loop-left

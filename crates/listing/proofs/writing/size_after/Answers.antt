@@ -4,9 +4,6 @@ use mathlib.Core.Path.{ap}
 use native.Mathlib.Omega.{arith}
 use lib.ListN.{length}
 use Rattle.listing.proofs.Bytes.{text_short, no_key_lem, some_key}
-use Rattle.listing.proofs.writing.size_after.Reads as reads
-use Rattle.listing.proofs.writing.size_after.Lts as lts
-use Rattle.listing.proofs.writing.size.Reads as size-reads
 use Rattle.listing.proofs.writing.size_after.Goals as goal
 
 pub overflow_add-result : goal.overflow_add-result

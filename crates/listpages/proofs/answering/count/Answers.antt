@@ -1,8 +1,6 @@
 -- `listpages::answering::count` meets its contract.
 -- src/answering.rt:36:20
 use borrow.Author.Tests.{lt-ltb, le-ltb}
-use Rattle.listpages.proofs.answering.count.Reads as reads
-use Rattle.listpages.proofs.answering.count.Lts as lts
 use Rattle.listpages.proofs.answering.count.Goals as goal
 
 pub returns-then-k-lt18446744073709551615 : goal.returns-then-k-lt18446744073709551615

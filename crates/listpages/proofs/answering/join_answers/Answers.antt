@@ -1,13 +1,6 @@
 -- `listpages::answering::join_answers` meets its contract.
 use Rattle.listpages.proofs.Outs.{next_reading, answers_begun, answers_at, answers-grown, answers-turn, answers_ended, answers_long}
-use Prim.Native.Nat.{◌-◌}
 use native.Mathlib.Omega.{arith}
-use Rattle.listpages.proofs.answering.join_answers.Reads as reads
-use Rattle.listpages.proofs.answering.join_answers.Lts as lts
-use Rattle.listpages.proofs.answering.count.Reads as count-reads
-use Rattle.listpages.proofs.answering.line_end.Reads as line-end-reads
-use Rattle.listpages.proofs.entries.answer_line.Reads as answer-line-reads
-use Rattle.listpages.proofs.entries.bytes_in.Reads as bytes-in-reads
 use Rattle.listpages.proofs.answering.join_answers.Goals as goal
 
 pub loop-from-init : goal.loop-from-init

@@ -2,12 +2,6 @@
 use Rattle.listpages.proofs.Outs.{Answered}
 use lib.ListN.{length}
 use Prim.Native.Nat.{◌-◌}
-use Rattle.listpages.proofs.answering.join_answers.Reads as reads
-use Rattle.listpages.proofs.answering.join_answers.Lts as lts
-use Rattle.listpages.proofs.answering.count.Reads as count-reads
-use Rattle.listpages.proofs.answering.line_end.Reads as line-end-reads
-use Rattle.listpages.proofs.entries.answer_line.Reads as answer-line-reads
-use Rattle.listpages.proofs.entries.bytes_in.Reads as bytes-in-reads
 use Rattle.listpages.proofs.answering.join_answers.Given as goal
 
 abbrev pub invariant-loop-from : goal.invariant-loop-from

@@ -1,10 +1,7 @@
 -- `listpages::answering::line_end` meets its contract.
 use Rattle.listpages.proofs.Lined.{within_start, within_turn, ends_feed, ends_bytes}
-use Prim.Native.Nat.{◌-◌}
 use borrow.Author.Tests.{eq-eqb, ne_eqb}
 use native.Mathlib.Omega.{arith}
-use Rattle.listpages.proofs.answering.line_end.Reads as reads
-use Rattle.listpages.proofs.answering.line_end.Lts as lts
 use Rattle.listpages.proofs.answering.line_end.Goals as goal
 
 pub loop-i-init : goal.loop-i-init

@@ -2,8 +2,6 @@
 use Rattle.listpages.proofs.Lined.{Within}
 use lib.ListN.{length}
 use Prim.Native.Nat.{◌-◌}
-use Rattle.listpages.proofs.answering.line_end.Reads as reads
-use Rattle.listpages.proofs.answering.line_end.Lts as lts
 use Rattle.listpages.proofs.answering.line_end.Given as goal
 
 abbrev pub invariant-loop-i : goal.invariant-loop-i

@@ -2,8 +2,6 @@
 -- src/answering.rt:32:1
 use lib.ListN.{length-take}
 use native.Mathlib.Omega.{arith}
-use Rattle.listpages.proofs.answering.piece_end.Reads as reads
-use Rattle.listpages.proofs.answering.piece_end.Lts as lts
 use Rattle.listpages.proofs.answering.piece_end.Goals as goal
 
 pub returns-then-bytes-lt-PIECE_BYTES : goal.returns-then-bytes-lt-PIECE_BYTES

@@ -3,11 +3,6 @@
 use Rattle.listpages.proofs.Outs.{piece_bound, piece_fits, piece_reads}
 use lib.ListN.{length-take}
 use native.Mathlib.Omega.{arith}
-use Rattle.listpages.proofs.answering.read_lines.Reads as reads
-use Rattle.listpages.proofs.answering.read_lines.Lts as lts
-use Rattle.lines.proofs.hand_over.Reads as hand-over-reads
-use Rattle.listpages.proofs.answering.join_answers.Reads as join-answers-reads
-use Rattle.listpages.proofs.answering.piece_end.Reads as piece-end-reads
 use Rattle.listpages.proofs.answering.read_lines.Goals as goal
 
 pub slice_bounds-join_answers-end : goal.slice_bounds-join_answers-end

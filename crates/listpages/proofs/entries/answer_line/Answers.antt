@@ -2,12 +2,6 @@
 -- src/entries.rt:91:11
 use Rattle.listpages.proofs.Outs.{answered_word, answered_refusal}
 use Rattle.lines.specs.Lines.{last_line}
-use Rattle.listpages.proofs.entries.answer_line.Reads as reads
-use Rattle.listpages.proofs.entries.answer_line.Lts as lts
-use Rattle.lines.proofs.last_line.Reads as last-line-reads
-use Rattle.listpages.proofs.entries.hex_line.Reads as hex-line-reads
-use Rattle.listpages.proofs.entries.read_line.Reads as read-line-reads
-use Rattle.listpages.proofs.entries.waits_after.Reads as waits-after-reads
 use Rattle.listpages.proofs.entries.answer_line.Goals as goal
 
 pub returns-in-Word : goal.returns-in-Word

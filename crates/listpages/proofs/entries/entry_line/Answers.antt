@@ -2,10 +2,6 @@
 -- src/entries.rt:59:9
 use Rattle.listpages.proofs.Entered.{entry_data, entry_word}
 use Rattle.lines.proofs.Answered.{makes_as}
-use Rattle.listpages.proofs.entries.entry_line.Reads as reads
-use Rattle.listpages.proofs.entries.entry_line.Lts as lts
-use Rattle.listpages.proofs.entries.hex_line.Reads as hex-line-reads
-use Rattle.listpages.proofs.entries.instruction_line.Reads as instruction-line-reads
 use Rattle.listpages.proofs.entries.entry_line.Goals as goal
 
 pub returns-then-waits : goal.returns-then-waits

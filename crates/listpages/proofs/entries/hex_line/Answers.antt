@@ -3,10 +3,6 @@
 use Rattle.listpages.proofs.Entered.{hex_filled}
 use Rattle.lines.proofs.Answered.{makes_as}
 use mathlib.Core.Path.{refl}
-use Rattle.listpages.proofs.entries.hex_line.Reads as reads
-use Rattle.listpages.proofs.entries.hex_line.Lts as lts
-use Rattle.lines.proofs.hand_over.Reads as hand-over-reads
-use Rattle.listing.proofs.data_line.Reads as data-line-reads
 use Rattle.listpages.proofs.entries.hex_line.Goals as goal
 
 pub returns : goal.returns

@@ -7,11 +7,6 @@ use Rattle.lines.proofs.Answered.{makes_as}
 use lib.ListN.{length-take, length-set}
 use native.Mathlib.Omega.{arith}
 use mathlib.Core.Path.{refl, sym, ap, ◌∙◌}
-use Rattle.listpages.proofs.entries.instruction_line.Reads as reads
-use Rattle.listpages.proofs.entries.instruction_line.Lts as lts
-use Rattle.lines.proofs.hand_over.Reads as hand-over-reads
-use Rattle.lines.proofs.word_refused_line.Reads as word-refused-line-reads
-use Rattle.listing.proofs.line_of.Reads as line-of-reads
 use Rattle.listpages.proofs.entries.instruction_line.Goals as goal
 
 pub returns-then-n-gt-LINE_BYTES : goal.returns-then-n-gt-LINE_BYTES

@@ -2,10 +2,6 @@
 -- src/entries.rt:70:9
 use Rattle.listpages.proofs.Entered.{tells_data, tells_word}
 use mathlib.Core.Path.{◌∙◌}
-use Rattle.listpages.proofs.entries.read_line.Reads as reads
-use Rattle.listpages.proofs.entries.read_line.Lts as lts
-use Rattle.listing.proofs.data_of.Reads as data-of-reads
-use Rattle.listing.proofs.word_of.Reads as word-of-reads
 use Rattle.listpages.proofs.entries.read_line.Goals as goal
 
 pub returns-then-waits : goal.returns-then-waits

@@ -2,9 +2,6 @@
 -- src/entries.rt:83:9
 use Rattle.listpages.proofs.Entered.{after_word_lem}
 use mathlib.Core.Path.{◌∙◌}
-use Rattle.listpages.proofs.entries.waits_after.Reads as reads
-use Rattle.listpages.proofs.entries.waits_after.Lts as lts
-use Rattle.isa.proofs.takes_immediate.Reads as takes-immediate-reads
 use Rattle.listpages.proofs.entries.waits_after.Goals as goal
 
 pub returns-else-waits : goal.returns-else-waits

@@ -1,13 +1,6 @@
 -- `listpages::listing_trace::join_lines` meets its contract.
 use Rattle.listpages.proofs.Outs.{list_begun, list_at, list-grown, list-turn, list_ended}
-use Prim.Native.Nat.{◌-◌, ◌≤◌}
 use native.Mathlib.Omega.{arith}
-use Rattle.listpages.proofs.listing_trace.join_lines.Reads as reads
-use Rattle.listpages.proofs.listing_trace.join_lines.Lts as lts
-use Rattle.listpages.proofs.entries.bytes_in.Reads as bytes-in-reads
-use Rattle.listpages.proofs.entries.entry_line.Reads as entry-line-reads
-use Rattle.listpages.proofs.entries.waits_after.Reads as waits-after-reads
-use Rattle.listpages.proofs.listing_trace.line_word.Reads as line-word-reads
 use Rattle.listpages.proofs.listing_trace.join_lines.Goals as goal
 
 pub loop-i-init : goal.loop-i-init

@@ -5,12 +5,6 @@ use Rattle.listpages.specs.Entries.{entry_line, waits_after}
 use Rattle.run.specs.Splitting.{cycles_in}
 use lib.ListN.{length}
 use Prim.Native.Nat.{◌-◌, ◌≤◌}
-use Rattle.listpages.proofs.listing_trace.join_lines.Reads as reads
-use Rattle.listpages.proofs.listing_trace.join_lines.Lts as lts
-use Rattle.listpages.proofs.entries.bytes_in.Reads as bytes-in-reads
-use Rattle.listpages.proofs.entries.entry_line.Reads as entry-line-reads
-use Rattle.listpages.proofs.entries.waits_after.Reads as waits-after-reads
-use Rattle.listpages.proofs.listing_trace.line_word.Reads as line-word-reads
 use Rattle.listpages.proofs.listing_trace.join_lines.Given as goal
 
 abbrev pub invariant-loop-i : goal.invariant-loop-i

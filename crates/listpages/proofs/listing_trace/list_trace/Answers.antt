@@ -6,13 +6,6 @@ use Rattle.lines.specs.Lines.{last_line}
 use lib.ListN.{length-take}
 use native.Mathlib.Omega.{arith}
 use borrow.Author.Rules.{rules}
-use Rattle.listpages.proofs.listing_trace.list_trace.Reads as reads
-use Rattle.listpages.proofs.listing_trace.list_trace.Lts as lts
-use Rattle.lines.proofs.last_line.Reads as last-line-reads
-use Rattle.lines.proofs.remark_line.Reads as remark-line-reads
-use Rattle.listpages.proofs.listing_trace.list_words.Reads as list-words-reads
-use Rattle.listpages.proofs.listing_trace.say_refused_word.Reads as say-refused-word-reads
-use Rattle.trace.proofs.read.Reads as read-reads
 use Rattle.listpages.proofs.listing_trace.list_trace.Goals as goal
 
 pub slice_bounds-cycles-end : goal.slice_bounds-cycles-end

@@ -4,10 +4,6 @@ use Rattle.listpages.proofs.Longest.{list_fits}
 use Rattle.lines.proofs.Putting.{line_made}
 use lib.ListN.{length-take}
 use native.Mathlib.Omega.{arith}
-use Rattle.listpages.proofs.listing_trace.list_words.Reads as reads
-use Rattle.listpages.proofs.listing_trace.list_words.Lts as lts
-use Rattle.lines.proofs.hand_over.Reads as hand-over-reads
-use Rattle.listpages.proofs.listing_trace.join_lines.Reads as join-lines-reads
 use Rattle.listpages.proofs.listing_trace.list_words.Goals as goal
 
 pub join_lines-n-requires : goal.join_lines-n-requires

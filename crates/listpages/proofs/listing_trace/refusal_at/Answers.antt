@@ -5,9 +5,6 @@ use Rattle.isa.specs.Words.{decoded_tells}
 use Rattle.choice.specs.Tells.{Tells}
 use Rattle.isa.specs.declared.Named.{Named}
 use mathlib.Core.Path.{sym, ap, ◌∙◌}
-use Rattle.listpages.proofs.listing_trace.refusal_at.Reads as reads
-use Rattle.listpages.proofs.listing_trace.refusal_at.Lts as lts
-use Rattle.isa.proofs.decode.Reads as decode-reads
 use Rattle.listpages.proofs.listing_trace.refusal_at.Goals as goal
 
 pub returns-in-Accepted : goal.returns-in-Accepted

@@ -5,14 +5,7 @@ use Rattle.lines.proofs.Answered.{makes_as, nothing_made}
 use Rattle.run.specs.Splitting.{cycles_in}
 use lib.ListN.{length}
 use native.Mathlib.Omega.{arith}
-use Prim.Native.Nat.{◌-◌, ◌≤◌}
-use mathlib.Core.Path.{◌≡◌, refl, ap, ◌∙◌}
-use Rattle.listpages.proofs.listing_trace.say_refused_word.Reads as reads
-use Rattle.listpages.proofs.listing_trace.say_refused_word.Lts as lts
-use Rattle.lines.proofs.remark_line.Reads as remark-line-reads
-use Rattle.listpages.proofs.entries.waits_after.Reads as waits-after-reads
-use Rattle.listpages.proofs.listing_trace.line_word.Reads as line-word-reads
-use Rattle.listpages.proofs.listing_trace.refusal_at.Reads as refusal-at-reads
+use mathlib.Core.Path.{refl, ap, ◌∙◌}
 use Rattle.listpages.proofs.listing_trace.say_refused_word.Goals as goal
 
 pub loop-i-init : goal.loop-i-init

@@ -3,13 +3,7 @@ use Rattle.listpages.specs.Listing.{line_words_from, said_from, list_said}
 use Rattle.run.specs.Splitting.{cycles_in}
 use lib.ListN.{length}
 use Prim.Native.Nat.{◌-◌, ◌≤◌}
-use mathlib.Core.Path.{◌≡◌, ◌∙◌}
-use Rattle.listpages.proofs.listing_trace.say_refused_word.Reads as reads
-use Rattle.listpages.proofs.listing_trace.say_refused_word.Lts as lts
-use Rattle.lines.proofs.remark_line.Reads as remark-line-reads
-use Rattle.listpages.proofs.entries.waits_after.Reads as waits-after-reads
-use Rattle.listpages.proofs.listing_trace.line_word.Reads as line-word-reads
-use Rattle.listpages.proofs.listing_trace.refusal_at.Reads as refusal-at-reads
+use mathlib.Core.Path.{◌≡◌}
 use Rattle.listpages.proofs.listing_trace.say_refused_word.Given as goal
 
 abbrev pub invariant-loop-i : goal.invariant-loop-i

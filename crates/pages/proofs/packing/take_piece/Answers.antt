@@ -1,7 +1,6 @@
 -- `pages::packing::take_piece` meets its contract: every turn takes some of what is left.
 use borrow.Author.Tests.{ltb-true}
 use borrow.Author.Rules.{rules}
-use Prim.Native.Nat.{◌-◌}
 use native.Mathlib.Omega.{arith}
 use Rattle.text.proofs.Laws.{left_some}
 use Rattle.pages.proofs.Pieces.{begins, ends, at-end, after-fault}

@@ -1,7 +1,7 @@
 -- `pages::running::join_page` meets its contract: the lines still to come get fewer.
 use mathlib.Core.Path.{subst}
 use mathlib.Core.List.{List, []}
-use Prim.Native.Nat.{ℕ, ◌-◌}
+use Prim.Native.Nat.{ℕ}
 use native.Mathlib.Omega.{arith}
 use lib.ListN.{get_or}
 use Rattle.lines.specs.Pages.{page_of}

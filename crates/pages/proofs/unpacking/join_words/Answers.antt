@@ -1,7 +1,7 @@
 -- `pages::unpacking::join_words` meets its contract: the lines still to come get fewer.
 use mathlib.Core.Path.{subst}
 use mathlib.Core.List.{List}
-use Prim.Native.Nat.{ℕ, ◌-◌}
+use Prim.Native.Nat.{ℕ}
 use native.Mathlib.Omega.{arith}
 use Rattle.lines.specs.Words.{words_line}
 use Rattle.lines.specs.Putting.{Puts}

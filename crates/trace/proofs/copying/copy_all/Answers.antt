@@ -1,6 +1,5 @@
 -- `trace::copying::copy_all` meets its contract: the loop of proofs/Copied.
 use mathlib.Core.Path.{◌∙◌}
-use Prim.Native.Nat.{◌-◌}
 use native.Mathlib.Omega.{arith}
 use lib.ListN.{length-take, length-drop}
 use Rattle.trace.proofs.Parts.{block_long}

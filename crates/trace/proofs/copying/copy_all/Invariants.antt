@@ -1,5 +1,4 @@
 -- `trace::copying::copy_all` meets its contract: the loop of proofs/Copied.
-use mathlib.Core.Path.{◌∙◌}
 use Prim.Native.Nat.{◌-◌}
 use Rattle.trace.proofs.Copied.{Before}
 use Rattle.trace.proofs.copying.copy_all.Given as goal

@@ -1,7 +1,5 @@
 -- `trace::copying::copy_words` meets its contract: the words so far, and those of the bytes still to come, are all the words.
-use mathlib.Core.Path.{◌≡◌, refl, sym, ◌∙◌}
-use mathlib.Core.List.{◌++◌}
-use Prim.Native.Nat.{◌-◌, ◌*◌, ◌≤◌}
+use mathlib.Core.Path.{refl, sym, ◌∙◌}
 use native.Mathlib.Omega.{arith}
 use lib.ListN.{length-set}
 use Rattle.trace.proofs.Words.{words_step, words_none}

@@ -1,5 +1,5 @@
 -- `trace::copying::copy_words` meets its contract: the words so far, and those of the bytes still to come, are all the words.
-use mathlib.Core.Path.{◌≡◌, ◌∙◌}
+use mathlib.Core.Path.{◌≡◌}
 use mathlib.Core.List.{◌++◌}
 use Prim.Native.Nat.{◌-◌, ◌*◌, ◌≤◌}
 use lib.ListN.{length, take, drop}

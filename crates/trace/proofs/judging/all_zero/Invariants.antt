@@ -1,5 +1,5 @@
 -- `trace::judging::all_zero` meets its contract: the bytes still to come are all zero exactly when all are.
-use mathlib.Core.Path.{◌≡◌, ◌∙◌}
+use mathlib.Core.Path.{◌≡◌}
 use Prim.Native.Nat.{◌-◌, ◌≤◌}
 use lib.ListN.{length, drop}
 use Rattle.trace.specs.Blocks.{all_zero}

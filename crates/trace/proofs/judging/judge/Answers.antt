@@ -1,6 +1,5 @@
 -- `trace::judging::judge` meets its contract: the judgement of the blocks still to come, with the records so far, is that of all.
-use mathlib.Core.Path.{◌≡◌, refl, sym, ◌∙◌}
-use Prim.Native.Nat.{◌-◌, ◌*◌, ◌≤◌}
+use mathlib.Core.Path.{refl, sym, ◌∙◌}
 use native.Mathlib.Omega.{arith}
 use Rattle.trace.proofs.Parts.{block_long}
 use Rattle.trace.proofs.Judged.{judged_all, judged_end, judged-refused, judged-sound, count_at}

@@ -1,5 +1,5 @@
 -- `trace::judging::judge` meets its contract: the judgement of the blocks still to come, with the records so far, is that of all.
-use mathlib.Core.Path.{◌≡◌, ◌∙◌}
+use mathlib.Core.Path.{◌≡◌}
 use Prim.Native.Nat.{◌-◌, ◌*◌, ◌≤◌}
 use Rattle.trace.proofs.Judged.{judged_from}
 use Rattle.trace.proofs.judging.judge.Given as goal

@@ -1,7 +1,5 @@
 -- `trace::making::put_words` meets its contract: the bytes so far, and those of the words still to come, are all the bytes.
-use mathlib.Core.Path.{◌≡◌, refl, sym, ◌∙◌}
-use mathlib.Core.List.{◌++◌}
-use Prim.Native.Nat.{◌-◌, ◌*◌, ◌≤◌}
+use mathlib.Core.Path.{refl, sym, ◌∙◌}
 use native.Mathlib.Omega.{arith}
 use lib.ListN.{length-set}
 use Rattle.trace.proofs.Words.{bytes_step, bytes_none}

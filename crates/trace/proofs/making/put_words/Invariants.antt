@@ -1,5 +1,5 @@
 -- `trace::making::put_words` meets its contract: the bytes so far, and those of the words still to come, are all the bytes.
-use mathlib.Core.Path.{◌≡◌, ◌∙◌}
+use mathlib.Core.Path.{◌≡◌}
 use mathlib.Core.List.{◌++◌}
 use Prim.Native.Nat.{◌-◌, ◌*◌, ◌≤◌}
 use lib.ListN.{length, take, drop}

@@ -1,5 +1,4 @@
 -- `trace::making::write_blocks` meets its contract: the loop of proofs/Written.
-use Prim.Native.Nat.{◌-◌}
 use native.Mathlib.Omega.{arith}
 use lib.ListN.{length-take, length-drop}
 use Rattle.trace.proofs.Written.{begins, again, ends}
