@@ -1,4 +1,4 @@
--- The contract of the C function is its statement (choice, specs/Contracts).
+-- The contract of the C function is its statement (choice, specs/Promises).
 use mathlib.Core.Path.{refl}
 use lib.ListN.{length}
 use Rattle.choice.specs.Promises.{States, first, second}

@@ -1,4 +1,4 @@
--- The contracts of the C functions are their statements (choice, specs/Contracts).
+-- The contracts of the C functions are their statements (choice, specs/Promises).
 use mathlib.Core.Path.{◌≡◌, refl}
 use lib.ListN.{length}
 use Rattle.choice.specs.Promises.{States, first, second}

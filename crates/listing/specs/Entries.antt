@@ -1,4 +1,4 @@
--- For the contracts of private parts alone: the table of names as the code has it, the lists one after another (yOrAcc is the beginning of
+-- For the contracts of private parts alone: the table of names as the code has it, the lists one after another (y_or_acc is the beginning of
 -- destinations), and then the numbers 0 to 31.
 use Rattle.std.specs.Prelude.{ℕ, ◌+◌, ◌*◌, ◌/◌, ◌%◌, Bool, true, false, List, [], ◌∷◌, ◌++◌, eqb, ltb, take, drop, get_or}
 use Rattle.choice.specs.Pick.{pick}
