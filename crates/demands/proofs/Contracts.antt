@@ -52,11 +52,11 @@ pub record EveryContract : Type 1 where
   pub take : States take-contract.Asked take-contract.Learnt
       (λ κs a r b. TakesText (first a, (second a).now, (third a).now) (record { answer = r; after = (third b).now }))
   pub perform : States perform-contract.Asked perform-contract.Learnt (λ κs a r b. Performs (first a, second a, third a) r)
-  pub write_back_lem : States write-back-contract.Asked write-back-contract.Learnt (λ κs a r b. WritesBack (first a, second a, third a) r)
+  pub write_back : States write-back-contract.Asked write-back-contract.Learnt (λ κs a r b. WritesBack (first a, second a, third a) r)
   pub decode : States decode-contract.Asked decode-contract.Learnt (λ κs a r b. Decodes (first a) r)
   pub look_up : States look-up-contract.Asked look-up-contract.Learnt (λ κs a r b. LooksUp (first a) r)
   pub encode : States encode-contract.Asked encode-contract.Learnt (λ κs a r b. Encodes (first a) r)
-  pub takes_immediate_lem : States takes-immediate-contract.Asked takes-immediate-contract.Learnt (λ κs a r b. TakesImmediate (first a) r)
+  pub takes_immediate : States takes-immediate-contract.Asked takes-immediate-contract.Learnt (λ κs a r b. TakesImmediate (first a) r)
   pub number_of : States number-of-contract.Asked number-of-contract.Learnt (λ κs a r b. NumbersFamily (first a) r)
   pub numbered_row : States numbered-row-contract.Asked numbered-row-contract.Learnt (λ κs a r b. GivesRow (first a) r)
   pub plan_for : States plan-for-contract.Asked plan-for-contract.Learnt (λ κs a r b. Plans (first a) r)
@@ -64,9 +64,9 @@ pub record EveryContract : Type 1 where
   pub cycle : States cycle-contract.Asked cycle-contract.Learnt (λ κs a r b. Cycles (first a, second a) r)
   pub step : States step-contract.Asked step-contract.Learnt
       (λ κs a r b. StepsMachine ((first a).now, second a, third a) (record { answer = r; after = (first b).now }))
-  pub core_of_lem : States core-of-contract.Asked core-of-contract.Learnt (λ κs a r b. TakesApart (first a) r)
-  pub machine_from_lem : States machine-from-contract.Asked machine-from-contract.Learnt (λ κs a r b. PutsTogether (first a, second a) r)
-  pub may_start_lem : States may-start-contract.Asked may-start-contract.Learnt (λ κs a r b. MayStart (first a) r)
+  pub core_of : States core-of-contract.Asked core-of-contract.Learnt (λ κs a r b. TakesApart (first a) r)
+  pub machine_from : States machine-from-contract.Asked machine-from-contract.Learnt (λ κs a r b. PutsTogether (first a, second a) r)
+  pub may_start : States may-start-contract.Asked may-start-contract.Learnt (λ κs a r b. MayStart (first a) r)
   pub run : States run-contract.Asked run-contract.Learnt
       (λ κs a r b. Runs (record { machine = first a; words = (second a).now; budget = third a; reports = (fourth a).now }) (record { answer = r; after = (fourth b).now }))
   pub run_from_zero : States run-from-zero-contract.Asked run-from-zero-contract.Learnt
@@ -77,23 +77,23 @@ pub record EveryContract : Type 1 where
   pub write : States write-contract.Asked write-contract.Learnt
       (λ κs a r b. WritesTrace ((first a).now, (second a).now) (record { answer = r; after = (second b).now }))
   pub kept : States kept-contract.Asked kept-contract.Learnt (λ κs a r b. Keeps (first a) r)
-  pub cycle_line_lem : States cycle-line-contract.Asked cycle-line-contract.Learnt
+  pub cycle_line : States cycle-line-contract.Asked cycle-line-contract.Learnt
       (λ κs a r b. CycleLines (record { number = first a; y = second a; mask = third a; ct = fourth a; t = fifth a }, (sixth a).now) (record { answer = r; after = (sixth b).now }))
-  pub state_line_lem : States state-line-contract.Asked state-line-contract.Learnt
+  pub state_line : States state-line-contract.Asked state-line-contract.Learnt
       (λ κs a r b. StateLines (first a, (second a).now) (record { answer = r; after = (second b).now }))
-  pub register_line_lem : States register-line-contract.Asked register-line-contract.Learnt
+  pub register_line : States register-line-contract.Asked register-line-contract.Learnt
       (λ κs a r b. RegisterLines (first a, second a, (third a).now) (record { answer = r; after = (third b).now }))
-  pub word_refused_line_lem : States word-refused-line-contract.Asked word-refused-line-contract.Learnt
+  pub word_refused_line : States word-refused-line-contract.Asked word-refused-line-contract.Learnt
       (λ κs a r b. WordRefusedLines (first a, (second a).now) (record { answer = r; after = (second b).now }))
   pub last_line : States last-line-contract.Asked last-line-contract.Learnt
       (λ κs a r b. LastLines (first a, second a, (third a).now) (record { answer = r; after = (third b).now }))
   pub page_line : States page-line-contract.Asked page-line-contract.Learnt
       (λ κs a r b. PageLines (first a, (second a).now, third a, (fourth a).now) (record { answer = r; after = (fourth b).now }))
-  pub words_line_lem : States words-line-contract.Asked words-line-contract.Learnt
+  pub words_line : States words-line-contract.Asked words-line-contract.Learnt
       (λ κs a r b. WordsLines ((first a).now, second a, (third a).now) (record { answer = r; after = (third b).now }))
-  pub fault_line_lem : States fault-line-contract.Asked fault-line-contract.Learnt
+  pub fault_line : States fault-line-contract.Asked fault-line-contract.Learnt
       (λ κs a r b. FaultLines (first a, (second a).now) (record { answer = r; after = (second b).now }))
-  pub remark_line_lem : States remark-line-contract.Asked remark-line-contract.Learnt
+  pub remark_line : States remark-line-contract.Asked remark-line-contract.Learnt
       (λ κs a r b. RemarkLines (first a, second a, (third a).now) (record { answer = r; after = (third b).now }))
   pub hand_over : States hand-over-contract.Asked hand-over-contract.Learnt
       (λ κs a r b. MakesLine ((first a).now, (second a).now) (record { answer = r; after = (second b).now }))
@@ -108,7 +108,7 @@ pub record EveryContract : Type 1 where
   pub line_of : States line-of-contract.Asked line-of-contract.Learnt
       (λ κs a r b. PrintsWord (first a, (second a).now) (record { answer = r; after = (second b).now }))
   pub word_of : States word-of-contract.Asked word-of-contract.Learnt (λ κs a r b. ReadsWord (first a).now r)
-  pub data_line_lem : States data-line-contract.Asked data-line-contract.Learnt
+  pub data_line : States data-line-contract.Asked data-line-contract.Learnt
       (λ κs a r b. PrintsData (first a, (second a).now) (record { answer = r; after = (second b).now }))
   pub data_of : States data-of-contract.Asked data-of-contract.Learnt (λ κs a r b. ReadsData (first a).now r)
   pub list_trace : States list-trace-contract.Asked list-trace-contract.Learnt
@@ -121,35 +121,35 @@ every_contract = record {
   start = λ κs a r b. (refl, refl);
   take = λ κs a r b. (refl, refl);
   perform = λ κs a r b. (refl, refl);
-  write_back_lem = λ κs a r b. (refl, refl);
+  write_back = λ κs a r b. (refl, refl);
   decode = λ κs a r b. (refl, refl);
   look_up = λ κs a r b. (refl, refl);
   encode = λ κs a r b. (refl, refl);
-  takes_immediate_lem = λ κs a r b. (refl, refl);
+  takes_immediate = λ κs a r b. (refl, refl);
   number_of = λ κs a r b. (refl, refl);
   numbered_row = λ κs a r b. (refl, refl);
   plan_for = λ κs a r b. (refl, refl);
   names_immediate = λ κs a r b. (refl, refl);
   cycle = λ κs a r b. (refl, refl);
   step = λ κs a r b. (refl, refl);
-  core_of_lem = λ κs a r b. (refl, refl);
-  machine_from_lem = λ κs a r b. (refl, refl);
-  may_start_lem = λ κs a r b. (refl, refl);
+  core_of = λ κs a r b. (refl, refl);
+  machine_from = λ κs a r b. (refl, refl);
+  may_start = λ κs a r b. (refl, refl);
   run = λ κs a r b. (refl, refl);
   run_from_zero = λ κs a r b. (refl, refl);
   check = λ κs a r b. (refl, refl);
   read = λ κs a r b. (refl, refl);
   write = λ κs a r b. (refl, refl);
   kept = λ κs a r b. (refl, refl);
-  cycle_line_lem = λ κs a r b. (refl, refl);
-  state_line_lem = λ κs a r b. (refl, refl);
-  register_line_lem = λ κs a r b. (refl, refl);
-  word_refused_line_lem = λ κs a r b. (refl, refl);
+  cycle_line = λ κs a r b. (refl, refl);
+  state_line = λ κs a r b. (refl, refl);
+  register_line = λ κs a r b. (refl, refl);
+  word_refused_line = λ κs a r b. (refl, refl);
   last_line = λ κs a r b. (refl, refl);
   page_line = λ κs a r b. (refl, refl);
-  words_line_lem = λ κs a r b. (refl, refl);
-  fault_line_lem = λ κs a r b. (refl, refl);
-  remark_line_lem = λ κs a r b. (refl, refl);
+  words_line = λ κs a r b. (refl, refl);
+  fault_line = λ κs a r b. (refl, refl);
+  remark_line = λ κs a r b. (refl, refl);
   hand_over = λ κs a r b. (refl, refl);
   run_trace = λ κs a r b. (refl, refl);
   unpack_trace = λ κs a r b. (refl, refl);
@@ -157,7 +157,7 @@ every_contract = record {
   end_text = λ κs a r b. (refl, refl);
   line_of = λ κs a r b. (refl, refl);
   word_of = λ κs a r b. (refl, refl);
-  data_line_lem = λ κs a r b. (refl, refl);
+  data_line = λ κs a r b. (refl, refl);
   data_of = λ κs a r b. (refl, refl);
   list_trace = λ κs a r b. (refl, refl);
   read_lines = λ κs a r b. (refl, refl);

@@ -41,35 +41,35 @@ pub record EveryCall : Type 0 where
   pub start : Determined Starts
   pub take : Determined TakesText
   pub perform : Determined Performs
-  pub write_back_lem : Determined WritesBack
+  pub write_back : Determined WritesBack
   pub decode : Determined Decodes
   pub look_up : Determined LooksUp
   pub encode : Determined Encodes
-  pub takes_immediate_lem : Determined TakesImmediate
+  pub takes_immediate : Determined TakesImmediate
   pub number_of : Determined NumbersFamily
   pub numbered_row : Determined GivesRow
   pub plan_for : Determined Plans
   pub names_immediate : Determined NamesImmediate
   pub cycle : Determined Cycles
   pub step : Determined StepsMachine
-  pub core_of_lem : Determined TakesApart
-  pub machine_from_lem : Determined PutsTogether
-  pub may_start_lem : Determined MayStart
+  pub core_of : Determined TakesApart
+  pub machine_from : Determined PutsTogether
+  pub may_start : Determined MayStart
   pub run : Determined Runs
   pub run_from_zero : Determined RunsFromZero
   pub check : Determined Checks
   pub read : Determined ReadsTrace
   pub write : Determined WritesTrace
   pub kept : Determined Keeps
-  pub cycle_line_lem : Determined CycleLines
-  pub state_line_lem : Determined StateLines
-  pub register_line_lem : Determined RegisterLines
-  pub word_refused_line_lem : Determined WordRefusedLines
+  pub cycle_line : Determined CycleLines
+  pub state_line : Determined StateLines
+  pub register_line : Determined RegisterLines
+  pub word_refused_line : Determined WordRefusedLines
   pub last_line : Determined LastLines
   pub page_line : Determined PageLines
-  pub words_line_lem : Determined WordsLines
-  pub fault_line_lem : Determined FaultLines
-  pub remark_line_lem : Determined RemarkLines
+  pub words_line : Determined WordsLines
+  pub fault_line : Determined FaultLines
+  pub remark_line : Determined RemarkLines
   pub hand_over : Determined MakesLine
   pub run_trace : Determined ShowsRun
   pub unpack_trace : Determined ShowsWords
@@ -77,7 +77,7 @@ pub record EveryCall : Type 0 where
   pub end_text : Determined EndsTexts
   pub line_of : Determined PrintsWord
   pub word_of : Determined ReadsWord
-  pub data_line_lem : Determined PrintsData
+  pub data_line : Determined PrintsData
   pub data_of : Determined ReadsData
   pub list_trace : Determined ShowsList
   pub read_lines : Determined AnswersLines
@@ -87,35 +87,35 @@ every_call = record {
   start = λ i x y f g. start_unique x y f g;
   take = λ i x y f g. same_filling x y (take_unique i.0 i.1 x.answer y.answer i.2 x.after y.after f g);
   perform = λ i x y f g. perform_unique i.0 i.1 i.2 x y f g;
-  write_back_lem = λ i x y f g. write_back_unique i.0 i.1 i.2 x y f g;
+  write_back = λ i x y f g. write_back_unique i.0 i.1 i.2 x y f g;
   decode = decode_unique;
   look_up = look_up_unique;
   encode = encode_unique;
-  takes_immediate_lem = takes_immediate_unique;
+  takes_immediate = takes_immediate_unique;
   number_of = number_of_unique;
   numbered_row = numbered_row_unique;
   plan_for = plan_for_unique;
   names_immediate = names_immediate_unique;
   cycle = λ i x y f g. cycle_unique i.0 i.1 x y f g;
   step = λ i x y f g. same_filling x y (step_unique i.0 i.1 i.2 x.answer y.answer x.after y.after f g);
-  core_of_lem = core_of_unique;
-  machine_from_lem = λ i x y f g. machine_from_unique i.0 i.1 x y f g;
-  may_start_lem = may_start_unique;
+  core_of = core_of_unique;
+  machine_from = λ i x y f g. machine_from_unique i.0 i.1 x y f g;
+  may_start = may_start_unique;
   run = runs;
   run_from_zero = λ i. runs (record { machine = zero_machine; words = i.0; budget = full_budget; reports = i.1 });
   check = check_unique;
   read = λ i x y f g. same_filling x y (read_unique i.0 i.1 x.answer y.answer x.after y.after f g);
   write = λ i x y f g. same_filling x y (write_unique i.0 i.1 x.answer y.answer x.after y.after f g);
   kept = kept_unique;
-  cycle_line_lem = λ i. makes_line (_, i.1);
-  state_line_lem = λ i. makes_line (_, i.1);
-  register_line_lem = λ i. makes_line (_, i.2);
-  word_refused_line_lem = λ i. makes_line (_, i.1);
+  cycle_line = λ i. makes_line (_, i.1);
+  state_line = λ i. makes_line (_, i.1);
+  register_line = λ i. makes_line (_, i.2);
+  word_refused_line = λ i. makes_line (_, i.1);
   last_line = λ i. makes_line (_, i.2);
   page_line = λ i. makes_line (_, i.3);
-  words_line_lem = λ i. makes_line (_, i.2);
-  fault_line_lem = λ i. makes_line (_, i.1);
-  remark_line_lem = λ i. makes_line (_, i.2);
+  words_line = λ i. makes_line (_, i.2);
+  fault_line = λ i. makes_line (_, i.1);
+  remark_line = λ i. makes_line (_, i.2);
   hand_over = makes_line;
   run_trace = λ i x y f g. same_both x y (writes_unique _ _ x.answer y.answer i.1 i.2 x.out x.errors y.out y.errors f g);
   unpack_trace = λ i x y f g. same_both x y (writes_unique _ _ x.answer y.answer i.1 i.2 x.out x.errors y.out y.errors f g);
@@ -125,7 +125,7 @@ every_call = record {
       same_both x y (same_filling x.answer y.answer (u.0, u.1), u.2, u.3);
   line_of = λ i x y f g. same_filling x y (line_of_unique i.0 i.1 x.answer y.answer x.after y.after f g);
   word_of = word_of_unique;
-  data_line_lem = λ i x y f g. same_filling x y (data_line_unique i.0 i.1 x.answer y.answer x.after y.after f g);
+  data_line = λ i x y f g. same_filling x y (data_line_unique i.0 i.1 x.answer y.answer x.after y.after f g);
   data_of = data_of_unique;
   list_trace = λ i x y f g. same_both x y (writes_unique _ _ x.answer y.answer i.1 i.2 x.out x.errors y.out y.errors f g);
   read_lines = λ i x y f g. same_filling x y (read_lines_unique i.0 i.1 x.answer y.answer i.2 x.after y.after f g);
