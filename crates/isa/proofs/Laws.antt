@@ -1,15 +1,15 @@
 -- What holds of words and named instructions: both round trips, one family to a word, each number exactly when its condition
 -- holds, and one answer to each call.
 -- The laws, in this order: `family_in`, `one_family`, `encode_decode`, `encode_small`, `decode_encode`, `word_answered`, `named_answered`,
--- `word_seven`, `word_eight`, `word_nine`, `named_seven`, `named_eight`, `named_nine`, `number_of_named`, `decode_unique`, `look_up_unique`,
+-- `word_seven`, `word_eight`, `word_nine`, `named_seven`, `named_eight`, `named_nine`, `number_of_named`, `accepted_word_lem`, `slot_accepts_lem`, `decode_unique`, `look_up_unique`,
 -- `encode_unique`, `number_of_unique`, `numbered_row_unique`, `takes_immediate_unique`.
 use mathlib.Core.Path.{◌≡◌, refl, ◌∙◌, sym, ap, subst}
 use mathlib.Core.Bool.{Bool, true, false, not}
 use mathlib.Core.List.{List, [], ◌∷◌}
 use mathlib.Core.Logic.{◌↔◌, inl, inr}
-use Prim.Native.Nat.{ℕ, ◌<◌, ◌≤◌}
+use Prim.Native.Nat.{ℕ, zero, suc, ◌+◌, ◌*◌, ◌/◌, ◌%◌, ◌<◌, ◌≤◌}
 use native.Mathlib.Omega.{arith}
-use native.Mathlib.Nat.{div-div-eq-div-mul}
+use native.Mathlib.Nat.{div-div-eq-div-mul, not-suc-le-zero}
 use lib.Dec.{T, eqb, leb}
 use borrow.Author.Tests.{eqb-true, eqb-false, leb-false, leb-true, not-true, not-false}
 use Rattle.alu.specs.declared.Mode.{Mode}
@@ -29,7 +29,7 @@ use Rattle.isa.specs.declared.Encoded.{Encoded}
 use Rattle.isa.specs.Fields.{mark_of, quadrant_of, field_a, field_b, field_c, word_of, mode_of, mark_for}
 use Rattle.isa.specs.Table.{row_at, no_row, number_of}
 use Rattle.isa.specs.Slots.{takes, row_of}
-use Rattle.isa.specs.Words.{InFamily, Listed, acc_twice, bit_too_high, rule_checks, word_number, word_row, word_checks, named_by, decode_of, lookup_of, decoded_tells, named_row, named_checks, word_for, encode_of, encoded_tells, takes_immediate, Answered}
+use Rattle.isa.specs.Words.{InFamily, Listed, acc_twice, bit_too_high, rule_checks, word_number, word_row, word_checks, named_by, decode_of, lookup_of, decoded_tells, named_row, named_checks, word_for, encode_of, encoded_tells, takes_immediate, accepted_word, some_below, slot_accepts, Answered}
 use Rattle.isa.specs.Decision.{fill_of}
 use Rattle.isa.proofs.Families.{own_row, own_number, narrow, mark_small}
 use Rattle.isa.proofs.Takes.{small}
@@ -328,6 +328,49 @@ module _ (f : Family) (w : ℕ) (h : w < 0x10000) (t : InFamily f w) where
       ∙ ap (λ (m : ℕ). refusal (rule_checks (word_row w) m (field_a w) (field_b w))) mark_in
       ∙ sym (passed 7 (leb no_row (word_number w)) (rule_checks (word_row w) (mark_of w) (field_a w) (field_b w)) (taken_listed w f t))
       ∙ sym (told_number (refusal (word_checks w)) (named_by w))
+
+-- accepted: neither unlisted nor refused by a rule
+unrefused : (seven eight nine : Bool) → (refusal (check 7 seven ∷ check 8 eight ∷ check 9 nine ∷ []) ≡ 0)
+    ↔ (pick seven false (clear (check 8 eight ∷ check 9 nine ∷ [])) ≡ true)
+unrefused true eight nine = (λ h. absurd (positive 7 tt h), λ h. absurd (never h))
+unrefused false true nine = (λ h. absurd (positive 8 tt h), λ h. absurd (never h))
+unrefused false false true = (λ h. absurd (positive 9 tt h), λ h. absurd (never h))
+unrefused false false false = (λ h. refl, λ h. refl)
+
+-- a word is accepted exactly when decoding it gives no number
+pub accepted_word_lem : (w : ℕ) → ((decode_of w).number ≡ 0) ↔ (accepted_word w ≡ true)
+unfolding decode_of
+accepted_word_lem w =
+    exactly_told 0 (refusal (word_checks w)) (named_by w)
+    (unrefused (leb no_row (word_number w)) (acc_twice (word_row w) (field_a w) (field_b w)) (bit_too_high (word_row w) (mark_of w) (field_a w)))
+
+-- a test holds of some number below n exactly when there is one
+module _ (n : ℕ) (test : ℕ → Bool) (fewer : (some_below n test ≡ true) ↔ ((k : ℕ) × (k < n) × (test k ≡ true))) where
+  some_forth : (b : Bool) → test n ≡ b → pick b true (some_below n test) ≡ true → (k : ℕ) × (k < suc n) × (test k ≡ true)
+  some_forth true q h = (n, omega arith, q)
+  some_forth false q h = let r = fewer.0 h in (r.0, omega (arith, r.1), r.2)
+
+  either : (b : Bool) → some_below n test ≡ true → pick b true (some_below n test) ≡ true
+  either true h = refl
+  either false h = h
+
+  some_back : (k : ℕ) → k < suc n → test k ≡ true → (same : Bool) → eqb k n ≡ same → pick (test n) true (some_below n test) ≡ true
+  some_back k l t true q = rw (← eqb-true k n q, t)
+  some_back k l t false q = either (test n) (fewer.1 (k, omega (arith, eqb-false k n q), t))
+
+some_below_lem : (n : ℕ) (test : ℕ → Bool) → (some_below n test ≡ true) ↔ ((k : ℕ) × (k < n) × (test k ≡ true))
+some_below_lem zero test = (λ h. absurd (never h), λ h. absurd (not-suc-le-zero h.1))
+some_below_lem (suc n) test =
+    let fewer = some_below_lem n test in
+    (some_forth n test fewer (test n) refl, λ h. some_back n test fewer h.0 h.1 h.2 (eqb h.0 n) refl)
+
+-- a word's slot accepts exactly when some accepted word has its bits 15 to 5
+pub slot_accepts_lem : (w : ℕ) → (slot_accepts w ≡ true) ↔ ((v : ℕ) × (v / 32 ≡ w / 32) × (accepted_word v ≡ true))
+slot_accepts_lem w =
+    let e = some_below_lem 32 (λ c. accepted_word (w / 32 * 32 + c)) in (
+      λ h. let r = e.0 h in (w / 32 * 32 + r.0, omega (arith, r.1), r.2),
+      λ h. let whole : w / 32 * 32 + h.0 % 32 ≡ h.0 = omega (arith, h.1) in e.1 (h.0 % 32, omega arith, rw whole h.2),
+    )
 
 -- what an answer tells fixes the answer
 decoded_one : (r s : Decoded) → decoded_tells r ≡ decoded_tells s → r ≡ s

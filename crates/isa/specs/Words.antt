@@ -1,8 +1,8 @@
 -- Words and named instructions: what decoding and encoding tell (document 01, the instruction list and the refusal numbers).
-use Rattle.std.specs.Prelude.{ℕ, ◌+◌, ◌≡◌, Bool, true, false, not, List, [], ◌∷◌, ◌++◌, eqb, leb, ltb, ◌⊎◌}
+use Rattle.std.specs.Prelude.{ℕ, zero, suc, ◌+◌, ◌*◌, ◌/◌, ◌≡◌, Bool, true, false, not, List, [], ◌∷◌, ◌++◌, eqb, leb, ltb, ◌⊎◌}
 use Rattle.std.proofs.Math.Option.{Option, none, some}
 use Rattle.choice.specs.Pick.{pick}
-use Rattle.choice.specs.Checks.{Check, check, refusal}
+use Rattle.choice.specs.Checks.{Check, check, refusal, clear}
 use Rattle.choice.specs.Tells.{Tells, accepted, refused, tells}
 use Rattle.isa.specs.declared.Family.{Family}
 use Rattle.isa.specs.declared.Row.{Row}
@@ -39,6 +39,20 @@ word_number w = row_of (mark_of w) (quadrant_of w) (field_a w) (field_b w) (fiel
 
 abbrev pub word_row : ℕ → Row
 word_row w = row_at (word_number w)
+
+-- a word is accepted: it is on the list, and its row's rule does not refuse it. So it is free of 7, 8 and 9 (document 01, the refusal numbers)
+abbrev pub accepted_word : ℕ → Bool
+accepted_word w =
+    pick (leb no_row (word_number w)) false (clear (rule_checks (word_row w) (mark_of w) (field_a w) (field_b w)))
+
+-- a test holds of some number below n
+abbrev pub some_below : ℕ → (ℕ → Bool) → Bool
+some_below zero test = false
+some_below (suc n) test = pick (test n) true (some_below n test)
+
+-- some accepted word agrees with a word in bits 15 to 5 (document 02, request 8); only field C can differ
+abbrev pub slot_accepts : ℕ → Bool
+slot_accepts w = some_below 32 (λ c. accepted_word (w / 32 * 32 + c))
 
 -- 7 for a word: it is not on the list
 abbrev pub unlisted_word : ℕ → List Check
