@@ -6,7 +6,6 @@
 ghost use Rattle.std.specs.Prelude.{◌<◌};
 
 use files::Files;
-use libc::STDOUT_FILENO;
 use lines::Program;
 
 // The most bytes of an argument, and the most arguments: more are passed over.
@@ -14,26 +13,22 @@ const NAME_BYTES: usize = 64;
 
 const MOST_ARGUMENTS: usize = 1000;
 
-fn print(text: &[u8]) {
-    io::write_all(STDOUT_FILENO, text);
-}
-
-fn print_argument(argument: usize) {
+fn print_argument(rt: &impl Print, argument: usize) {
     let mut name = [0u8; NAME_BYTES];
     let n = os::arg(argument, &mut name);
-    print(&name[0..n]);
+    print(rt, &name[0..n]);
 }
 
-fn print_title(first: usize)
+fn print_title(rt: &impl Print, first: usize)
     requires { first < 1000 }
 {
-    print(b"== ");
-    print_argument(first);
-    print(b" ");
-    print_argument(first + 1);
-    print(b" ");
-    print_argument(first + 2);
-    print(b"\n");
+    print(rt, b"== ");
+    print_argument(rt, first);
+    print(rt, b" ");
+    print_argument(rt, first + 1);
+    print(rt, b" ");
+    print_argument(rt, first + 2);
+    print(rt, b"\n");
 }
 
 // A letter of an argument, by its place from 0, and 0 where the argument has none there.
@@ -61,10 +56,10 @@ fn open_input(argument: usize) -> i32 {
 }
 
 // Runs a case. A blocked output is the input's own descriptor, which is open for reading alone.
-fn run_case(first: usize)
+fn run_case(rt: &impl Print, first: usize)
     requires { first < 1000 }
 {
-    print_title(first);
+    print_title(rt, first);
     let input = open_input(first + 2);
     let output = if letter(first + 1, 0) == b'b' {
         input
@@ -80,8 +75,8 @@ fn run_case(first: usize)
     libc::close(input);
 }
 
-fn main() {
-    print(b"== usage\n");
+fn main(rt: HostRuntime) {
+    print(&rt, b"== usage\n");
     files::print_usage(Program::RunTrace, STDOUT_FILENO);
     files::print_usage(Program::PackTrace, STDOUT_FILENO);
     files::print_usage(Program::UnpackTrace, STDOUT_FILENO);
@@ -93,7 +88,7 @@ fn main() {
         if count < first + 3 {
             return;
         }
-        run_case(first);
+        run_case(&rt, first);
         first += 3;
     }
 }

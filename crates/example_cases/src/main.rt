@@ -6,7 +6,6 @@
 ghost use Rattle.std.specs.Prelude.{◌<◌, ◌≤◌, length};
 ghost use Rattle.io.specs.Counts.{IsPrefixLen};
 
-use libc::STDOUT_FILENO;
 use lines::Line;
 use pages::PACKED_WORDS;
 use text::Reader;
@@ -18,10 +17,6 @@ const MOST_ARGUMENTS: usize = 1000;
 
 // Where what was made is not what is expected.
 const WRONG: usize = 0xFFFFFFFF;
-
-fn print(text: &[u8]) {
-    io::write_all(STDOUT_FILENO, text);
-}
 
 // The place after a text in what is expected, if it stands there.
 fn after_text(expected: &[u8], at: usize, text: &[u8]) -> usize {
@@ -207,27 +202,27 @@ fn holds(first: usize) -> bool
 }
 
 // Prints the name of the text, and whether it holds.
-fn print_case(first: usize)
+fn print_case(rt: &impl Print, first: usize)
     requires { first < 1000 }
 {
     let mut name = [0u8; NAME_BYTES];
     let n = os::arg(first + 1, &mut name);
-    print(&name[0..n]);
+    print(rt, &name[0..n]);
     if holds(first) {
-        print(b" as expected\n");
+        print(rt, b" as expected\n");
     } else {
-        print(b" NOT as expected\n");
+        print(rt, b" NOT as expected\n");
     }
 }
 
-fn main() {
+fn main(rt: HostRuntime) {
     let count = os::arg_count();
     let mut first: usize = 1;
     while first < MOST_ARGUMENTS {
         if count < first + 3 {
             return;
         }
-        print_case(first);
+        print_case(&rt, first);
         first += 3;
     }
 }
