@@ -7,9 +7,9 @@ mod writing; // writing.rt: output, what is said where it fails, and the lines o
 
 use lines::Program;
 pub use reading::{CHUNK, read_trace};
-use std::env::FillError;
 use std::io::Write;
 use std::rt::{Env, HostRuntime, Stderr, Stdin, Stdout};
+use streams::has_argument;
 pub use streams::{Input, fill};
 pub use writing::{print_usage, say, write_both, write_made};
 
@@ -30,19 +30,10 @@ pub fn standard(rt: &HostRuntime) -> Files<Stdin, Stdout, Stderr> {
     }
 }
 
-// Whether a program was started with an argument.
-fn has_argument(env: &impl Env) -> bool {
-    let mut start = [0u8; 1];
-    match env.arg(1, &mut start) {
-        Err(FillError::NotPresent) => false,
-        _ => true,
-    }
-}
-
 // Whether a program is asked how it is used, which any argument does. That is then printed where errors go, and the program has nothing more
 // to do.
 pub fn asked<E: Write>(program: Program, env: &impl Env, errors: &mut E) -> bool {
-    if has_argument(env) {
+    if has_argument(env, 1) {
         print_usage(program, errors);
         return true;
     }
