@@ -5,7 +5,7 @@
 ghost use Rattle.std.specs.Prelude.{◌<◌};
 
 use alu::{BitKind, Mode, OneOperandKind, Operation, Outcome, ShiftKind, TwoOperandKind};
-use libc::STDOUT_FILENO;
+use streams::{print, print_number};
 
 // The kinds of line, in the order in which they are printed.
 #[derive(Clone, Copy)]
@@ -241,10 +241,6 @@ fn tried(block: Block, i: usize, last: u16) -> Case {
 
 // How it is printed.
 
-fn print(text: &[u8]) {
-    io::write_all(STDOUT_FILENO, text);
-}
-
 fn glyph(d: u16) -> u8
     requires { d < 16 }
 {
@@ -252,7 +248,7 @@ fn glyph(d: u16) -> u8
 }
 
 // A word as four capital hex digits, after a blank.
-fn print_word(x: u16) {
+fn print_word(rt: &impl Print, x: u16) {
     let text = [
         b' ',
         glyph(x / 4096),
@@ -260,180 +256,178 @@ fn print_word(x: u16) {
         glyph(x / 16 % 16),
         glyph(x % 16),
     ];
-    print(&text);
+    print(rt, &text);
 }
 
 // A byte as two capital hex digits, after a mark.
-fn print_byte(mark: u8, x: u8) {
+fn print_byte(rt: &impl Print, mark: u8, x: u8) {
     let text = [mark, glyph(x as u16 / 16), glyph(x as u16 % 16)];
-    print(&text);
+    print(rt, &text);
 }
 
-fn print_outcome(o: Outcome) {
-    print_word(o.result);
-    print_byte(b'/', o.status);
+fn print_outcome(rt: &impl Print, o: Outcome) {
+    print_word(rt, o.result);
+    print_byte(rt, b'/', o.status);
 }
 
-fn print_case(mode: Mode, case: Case) {
+fn print_case(rt: &impl Print, mode: Mode, case: Case) {
     match case {
-        Case::Perform(operation, status) => print_outcome(alu::perform(mode, operation, status)),
-        Case::Write(old, result) => print_word(alu::write_back(mode, old, result)),
+        Case::Perform(operation, status) => print_outcome(
+            rt,
+            alu::perform(mode, operation, status),
+        ),
+        Case::Write(old, result) => print_word(rt, alu::write_back(mode, old, result)),
     }
 }
 
-fn print_mode(mode: Mode) {
+fn print_mode(rt: &impl Print, mode: Mode) {
     match mode {
-        Mode::Byte => print(b"B"),
-        Mode::Word => print(b"W"),
+        Mode::Byte => print(rt, b"B"),
+        Mode::Word => print(rt, b"W"),
     }
 }
 
-fn print_two_operand(i: usize) {
+fn print_two_operand(rt: &impl Print, i: usize) {
     match i {
-        0 => print(b" SUBR"),
-        1 => print(b" SUBRC"),
-        2 => print(b" SUBS"),
-        3 => print(b" SUBSC"),
-        4 => print(b" ADD"),
-        5 => print(b" ADDC"),
-        6 => print(b" AND"),
-        7 => print(b" NAND"),
-        8 => print(b" EXOR"),
-        9 => print(b" NOR"),
-        10 => print(b" OR"),
-        _ => print(b" EXNOR"),
+        0 => print(rt, b" SUBR"),
+        1 => print(rt, b" SUBRC"),
+        2 => print(rt, b" SUBS"),
+        3 => print(rt, b" SUBSC"),
+        4 => print(rt, b" ADD"),
+        5 => print(rt, b" ADDC"),
+        6 => print(rt, b" AND"),
+        7 => print(rt, b" NAND"),
+        8 => print(rt, b" EXOR"),
+        9 => print(rt, b" NOR"),
+        10 => print(rt, b" OR"),
+        _ => print(rt, b" EXNOR"),
     }
 }
 
-fn print_one_operand(i: usize) {
+fn print_one_operand(rt: &impl Print, i: usize) {
     match i {
-        0 => print(b" MOVE"),
-        1 => print(b" COMP"),
-        2 => print(b" INC"),
-        _ => print(b" NEG"),
+        0 => print(rt, b" MOVE"),
+        1 => print(rt, b" COMP"),
+        2 => print(rt, b" INC"),
+        _ => print(rt, b" NEG"),
     }
 }
 
-fn print_bit(i: usize) {
+fn print_bit(rt: &impl Print, i: usize) {
     match i {
-        0 => print(b" SETN"),
-        1 => print(b" RSTN"),
-        2 => print(b" TSTN"),
-        3 => print(b" LD2N"),
-        4 => print(b" LDC2N"),
-        5 => print(b" A2N"),
-        _ => print(b" S2N"),
+        0 => print(rt, b" SETN"),
+        1 => print(rt, b" RSTN"),
+        2 => print(rt, b" TSTN"),
+        3 => print(rt, b" LD2N"),
+        4 => print(rt, b" LDC2N"),
+        5 => print(rt, b" A2N"),
+        _ => print(rt, b" S2N"),
     }
 }
 
-fn print_shift(i: usize) {
+fn print_shift(rt: &impl Print, i: usize) {
     match i {
-        0 => print(b" SHUPZ"),
-        1 => print(b" SHUP1"),
-        2 => print(b" SHUPL"),
-        3 => print(b" SHDNZ"),
-        4 => print(b" SHDN1"),
-        5 => print(b" SHDNL"),
-        6 => print(b" SHDNC"),
-        _ => print(b" SHDNOV"),
+        0 => print(rt, b" SHUPZ"),
+        1 => print(rt, b" SHUP1"),
+        2 => print(rt, b" SHUPL"),
+        3 => print(rt, b" SHDNZ"),
+        4 => print(rt, b" SHDN1"),
+        5 => print(rt, b" SHDNL"),
+        6 => print(rt, b" SHDNC"),
+        _ => print(rt, b" SHDNOV"),
     }
 }
 
-fn print_name(block: Block, i: usize) {
+fn print_name(rt: &impl Print, block: Block, i: usize) {
     match block {
-        Block::TwoOperand => print_two_operand(i / 20),
-        Block::OneOperand => print_one_operand(i / 2),
-        Block::Bit => print_bit(i / 32),
-        Block::Shift => print_shift(i / 4),
-        Block::Rotate => print(b" ROT"),
+        Block::TwoOperand => print_two_operand(rt, i / 20),
+        Block::OneOperand => print_one_operand(rt, i / 2),
+        Block::Bit => print_bit(rt, i / 32),
+        Block::Shift => print_shift(rt, i / 4),
+        Block::Rotate => print(rt, b" ROT"),
         Block::Masked => {
             if i < 200 {
-                print(b" ROTM")
+                print(rt, b" ROTM")
             } else {
-                print(b" ROTC")
+                print(rt, b" ROTC")
             }
         }
-        Block::Prioritize => print(b" PRT"),
+        Block::Prioritize => print(rt, b" PRT"),
         Block::Check => {
             if i < 40 {
-                print(b" CRCF")
+                print(rt, b" CRCF")
             } else {
-                print(b" CRCR")
+                print(rt, b" CRCR")
             }
         }
-        Block::WriteBack => print(b" PUT"),
+        Block::WriteBack => print(rt, b" PUT"),
     }
 }
 
-fn print_status(block: Block, i: usize) {
+fn print_status(rt: &impl Print, block: Block, i: usize) {
     match block {
         Block::WriteBack => {}
-        _ => print_byte(b' ', status(block, i)),
+        _ => print_byte(rt, b' ', status(block, i)),
     }
 }
 
-fn print_place(n: u8) {
-    print(b" ");
-    io::print_decimal(STDOUT_FILENO, n as u64);
+fn print_place(rt: &impl Print, n: u8) {
+    print(rt, b" ");
+    print_number(rt, n as u64);
 }
 
 // n and the operands but the last.
-fn print_operands(block: Block, i: usize) {
+fn print_operands(rt: &impl Print, block: Block, i: usize) {
     match block {
-        Block::TwoOperand => print_word(corner(i)),
+        Block::TwoOperand => print_word(rt, corner(i)),
         Block::OneOperand => {}
-        Block::Bit => print_place(place(i)),
+        Block::Bit => print_place(rt, place(i)),
         Block::Shift => {}
-        Block::Rotate => print_place(place(i)),
+        Block::Rotate => print_place(rt, place(i)),
         Block::Masked => {
-            print_place(masked_place(i));
-            print_word(corner(i / 10));
-            print_word(corner(i));
+            print_place(rt, masked_place(i));
+            print_word(rt, corner(i / 10));
+            print_word(rt, corner(i));
         }
-        Block::Prioritize => print_word(corner(i)),
-        Block::Check => print_word(corner(i)),
-        Block::WriteBack => print_word(corner(i)),
+        Block::Prioritize => print_word(rt, corner(i)),
+        Block::Check => print_word(rt, corner(i)),
+        Block::WriteBack => print_word(rt, corner(i)),
     }
 }
 
-fn print_line(mode: Mode, block: Block, i: usize) {
-    print_mode(mode);
-    print_name(block, i);
-    print_status(block, i);
-    print_operands(block, i);
-    print(b":");
-    let mut j: usize = 0;
-    while j < 10 {
-        print_case(mode, tried(block, i, corner(j)));
-        j += 1;
+fn print_line(rt: &impl Print, mode: Mode, block: Block, i: usize) {
+    print_mode(rt, mode);
+    print_name(rt, block, i);
+    print_status(rt, block, i);
+    print_operands(rt, block, i);
+    print(rt, b":");
+    for j in 0..10usize {
+        print_case(rt, mode, tried(block, i, corner(j)));
     }
-    print(b"\n");
+    print(rt, b"\n");
 }
 
-fn print_block(mode: Mode, block: Block) {
-    let n = lines(block);
-    let mut i: usize = 0;
-    while i < n {
+fn print_block(rt: &impl Print, mode: Mode, block: Block) {
+    for i in 0..lines(block) {
         if listed(mode, block, i) {
-            print_line(mode, block, i);
+            print_line(rt, mode, block, i);
         }
-        i += 1;
     }
 }
 
-fn print_blocks(mode: Mode) {
-    print_block(mode, Block::TwoOperand);
-    print_block(mode, Block::OneOperand);
-    print_block(mode, Block::Bit);
-    print_block(mode, Block::Shift);
-    print_block(mode, Block::Rotate);
-    print_block(mode, Block::Masked);
-    print_block(mode, Block::Prioritize);
-    print_block(mode, Block::Check);
-    print_block(mode, Block::WriteBack);
+fn print_blocks(rt: &impl Print, mode: Mode) {
+    print_block(rt, mode, Block::TwoOperand);
+    print_block(rt, mode, Block::OneOperand);
+    print_block(rt, mode, Block::Bit);
+    print_block(rt, mode, Block::Shift);
+    print_block(rt, mode, Block::Rotate);
+    print_block(rt, mode, Block::Masked);
+    print_block(rt, mode, Block::Prioritize);
+    print_block(rt, mode, Block::Check);
+    print_block(rt, mode, Block::WriteBack);
 }
 
-fn main() {
-    print_blocks(Mode::Byte);
-    print_blocks(Mode::Word);
+fn main(rt: HostRuntime) {
+    print_blocks(&rt, Mode::Byte);
+    print_blocks(&rt, Mode::Word);
 }

@@ -7,8 +7,9 @@ mod printing; // printing.rt: what a call answered, as lines
 
 ghost use Rattle.std.specs.Prelude.{◌<◌, ◌≤◌, length};
 
-use libc::STDIN_FILENO;
-use printing::{BYTE_FILL, WORD_FILL, print, print_answer, print_number, print_unit};
+use printing::{BYTE_FILL, WORD_FILL, print_answer, print_number, print_unit};
+use std::io::Read;
+use streams::{fill, print};
 
 // The bytes of a header line, the line feed too.
 const HEADER: usize = 23;
@@ -77,36 +78,34 @@ fn unit_at(bytes: &[u8], at: usize, wide: bool) -> u16
 fn gather(bytes: &[u8], wide: bool, units: &mut [u16])
     requires { length units.old ≤ 32768 }
 {
-    let mut i: usize = 0;
-    while i < units.len() {
-        units[i] = unit_at(bytes, i, wide);
-        i += 1;
+    for (i, unit) in units.iter_mut().enumerate() {
+        *unit = unit_at(bytes, i, wide);
     }
 }
 
-fn check_case(input: &[u8]) {
-    print(b"\ncheck");
-    print_unit(trace::check(input), true);
-    print(b"\n");
+fn check_case(rt: &impl Print, input: &[u8]) {
+    print(rt, b"\ncheck");
+    print_unit(rt, trace::check(input), true);
+    print(rt, b"\n");
 }
 
-fn read_case(input: &[u8], lent: &mut [u16]) {
+fn read_case(rt: &impl Print, input: &[u8], lent: &mut [u16]) {
     let answer = trace::read(input, lent);
-    print_answer(answer, lent, true);
+    print_answer(rt, answer, lent, true);
 }
 
 // The words are as many as the input has, and the units as many as there are lent bytes.
-fn write_case(input: &[u8], words: &mut [u16], lent: &mut [u8], units: &mut [u16])
+fn write_case(rt: &impl Print, input: &[u8], words: &mut [u16], lent: &mut [u8], units: &mut [u16])
     requires words_len_bound { length words.old ≤ 32768 }
     requires units_len_bound { length units.old ≤ 32768 }
 {
     gather(input, true, words);
     let answer = trace::write(words, lent);
     gather(lent, false, units);
-    print_answer(answer, units, false);
+    print_answer(rt, answer, units, false);
 }
 
-fn run_kind(kind: u8, input: &[u8], room: usize)
+fn run_kind(rt: &impl Print, kind: u8, input: &[u8], room: usize)
     requires input_len_bound { length input.now ≤ 32768 }
     requires room_bound { room ≤ 32768 }
 {
@@ -115,9 +114,10 @@ fn run_kind(kind: u8, input: &[u8], room: usize)
     let mut units = [0u16; MOST];
     let count = input.len() / 2;
     match kind {
-        b'C' => check_case(input),
-        b'R' => read_case(input, &mut words[0..room]),
+        b'C' => check_case(rt, input),
+        b'R' => read_case(rt, input, &mut words[0..room]),
         _ => write_case(
+            rt,
             input,
             &mut words[0..count],
             &mut bytes[0..room],
@@ -126,29 +126,37 @@ fn run_kind(kind: u8, input: &[u8], room: usize)
     }
 }
 
-fn print_title(number: usize, kind: u8, length: usize) {
+fn print_title(rt: &impl Print, number: usize, kind: u8, length: usize) {
     let between = [b' ', kind, b' '];
-    print_number(number);
-    print(&between);
-    print_number(length);
+    print_number(rt, number);
+    print(rt, &between);
+    print_number(rt, length);
 }
 
 // Reads the payload into an input of zeros and runs the case, and answers whether the payload is there.
-fn run_payload(number: usize, kind: u8, payload: usize, input: &mut [u8], room: usize) -> bool
+fn run_payload<R: Read>(
+    rt: &impl Print,
+    from: &mut R,
+    number: usize,
+    kind: u8,
+    payload: usize,
+    input: &mut [u8],
+    room: usize,
+) -> bool
     requires payload_in_bounds { payload ≤ length input.old }
     requires input_len_bound { length input.old ≤ 32768 }
     requires room_bound { room ≤ 32768 }
 {
-    if io::read_full(STDIN_FILENO, &mut input[0..payload]) < payload {
+    if fill(from, &mut input[0..payload]).bytes < payload {
         return false;
     }
-    print_title(number, kind, input.len());
-    run_kind(kind, input, room);
+    print_title(rt, number, kind, input.len());
+    run_kind(rt, kind, input, room);
     true
 }
 
 // Runs the case of a header, and answers whether there is one.
-fn run_case(number: usize, header: &[u8; HEADER]) -> bool {
+fn run_case<R: Read>(rt: &impl Print, from: &mut R, number: usize, header: &[u8; HEADER]) -> bool {
     let payload = number_at(header, 1);
     let length = payload + number_at(header, 8);
     let room = number_at(header, 15);
@@ -162,28 +170,34 @@ fn run_case(number: usize, header: &[u8; HEADER]) -> bool {
         return false;
     }
     let mut zeros = [0u8; MOST];
-    run_payload(number, header[0], payload, &mut zeros[0..length], room)
+    run_payload(
+        rt,
+        from,
+        number,
+        header[0],
+        payload,
+        &mut zeros[0..length],
+        room,
+    )
 }
 
-fn print_count(cases: usize) {
-    print(b"cases ");
-    print_number(cases);
-    print(b"\n");
+fn print_count(rt: &impl Print, cases: usize) {
+    print(rt, b"cases ");
+    print_number(rt, cases);
+    print(rt, b"\n");
 }
 
 // Prints the number of cases at the end, or "bad input" where what comes next is no case.
-fn main() {
-    let mut cases: usize = 0;
-    while cases < MOST {
+fn main(rt: HostRuntime) {
+    let mut from = rt.stdin();
+    for cases in 0..MOST {
         let mut header = [0u8; HEADER];
-        if io::read_full(STDIN_FILENO, &mut header) == 0 {
-            print_count(cases);
-            return;
+        if fill(&mut from, &mut header).bytes == 0 {
+            return print_count(&rt, cases);
         }
-        cases += 1;
-        if !run_case(cases, &header) {
+        if !run_case(&rt, &mut from, cases + 1, &header) {
             break;
         }
     }
-    print(b"bad input\n");
+    print(&rt, b"bad input\n");
 }

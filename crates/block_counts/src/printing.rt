@@ -1,7 +1,7 @@
 // What a call answered and what it left in the lent output, as lines. A unit is a word where units are wide, and else a byte.
 ghost use Rattle.std.specs.Prelude.{◌<◌, ◌≤◌};
 
-use libc::STDOUT_FILENO;
+use streams::print;
 use trace::Filled;
 
 // What stands in each word and in each byte of lent output before a call.
@@ -12,12 +12,8 @@ pub(crate) const BYTE_FILL: u8 = 0xA5;
 // The units that are shown of the beginning and of the end.
 const SHOWN: usize = 8;
 
-pub(crate) fn print(text: &[u8]) {
-    io::write_all(STDOUT_FILENO, text);
-}
-
-pub(crate) fn print_number(n: usize) {
-    io::print_decimal(STDOUT_FILENO, n as u64);
+pub(crate) fn print_number(rt: &impl Print, n: usize) {
+    streams::print_number(rt, n as u64);
 }
 
 fn glyph(digit: u16) -> u8
@@ -31,45 +27,41 @@ fn glyph(digit: u16) -> u8
 }
 
 // A byte as two capital hex digits.
-fn print_byte(byte: u16)
+fn print_byte(rt: &impl Print, byte: u16)
     requires { byte < 256 }
 {
     let text = [glyph(byte / 16), glyph(byte % 16)];
-    print(&text);
+    print(rt, &text);
 }
 
 // A blank and a unit.
-pub(crate) fn print_unit(unit: u16, wide: bool) {
-    print(b" ");
+pub(crate) fn print_unit(rt: &impl Print, unit: u16, wide: bool) {
+    print(rt, b" ");
     if wide {
-        print_byte(unit / 256);
+        print_byte(rt, unit / 256);
     }
-    print_byte(unit % 256);
+    print_byte(rt, unit % 256);
 }
 
-fn print_units(units: &[u16], wide: bool) {
-    let mut i: usize = 0;
-    while i < units.len() {
-        print_unit(units[i], wide);
-        i += 1;
+fn print_units(rt: &impl Print, units: &[u16], wide: bool) {
+    for unit in units {
+        print_unit(rt, *unit, wide);
     }
-    print(b"\n");
+    print(rt, b"\n");
 }
 
 // The sum of the units, and that of each unit times its place from 1 on: from the last unit down, the second adds up the first.
-fn print_sums(units: &[u16]) {
+fn print_sums(rt: &impl Print, units: &[u16]) {
     let mut sum: u16 = 0;
     let mut weighted: u16 = 0;
-    let mut left = units.len();
-    while 0 < left {
-        left -= 1;
-        sum = std::num::wrapping_add_u16(sum, units[left]);
-        weighted = std::num::wrapping_add_u16(weighted, sum);
+    for unit in units.iter().rev() {
+        sum = sum.wrapping_add(*unit);
+        weighted = weighted.wrapping_add(sum);
     }
-    print(b"sum");
-    print_unit(sum, true);
-    print_unit(weighted, true);
-    print(b"\n");
+    print(rt, b"sum");
+    print_unit(rt, sum, true);
+    print_unit(rt, weighted, true);
+    print(rt, b"\n");
 }
 
 fn fill(wide: bool) -> u16 {
@@ -77,21 +69,14 @@ fn fill(wide: bool) -> u16 {
 }
 
 fn untouched(units: &[u16], wide: bool) -> bool {
-    let mut i: usize = 0;
-    while i < units.len() {
-        if units[i] != fill(wide) {
-            return false;
-        }
-        i += 1;
-    }
-    true
+    units.iter().all(|unit| *unit == fill(wide))
 }
 
-fn print_untouched(units: &[u16], wide: bool) {
+fn print_untouched(rt: &impl Print, units: &[u16], wide: bool) {
     if untouched(units, wide) {
-        print(b"untouched yes\n");
+        print(rt, b"untouched yes\n");
     } else {
-        print(b"untouched no\n");
+        print(rt, b"untouched no\n");
     }
 }
 
@@ -101,42 +86,42 @@ fn shown(filled: usize) -> usize
     if filled < SHOWN { filled } else { SHOWN }
 }
 
-fn print_accepted(units: &[u16], wide: bool) {
+fn print_accepted(rt: &impl Print, units: &[u16], wide: bool) {
     let some = shown(units.len());
-    print(b"accepted ");
-    print_number(units.len());
-    print(b"\nbegins");
-    print_units(&units[0..some], wide);
-    print(b"ends");
-    print_units(&units[units.len() - some..], wide);
-    print_sums(units);
+    print(rt, b"accepted ");
+    print_number(rt, units.len());
+    print(rt, b"\nbegins");
+    print_units(rt, &units[0..some], wide);
+    print(rt, b"ends");
+    print_units(rt, &units[units.len() - some..], wide);
+    print_sums(rt, units);
 }
 
-fn print_refused(number: u8, index: usize) {
-    print(b"refused ");
-    print_number(number as usize);
-    print(b" at ");
-    print_number(index);
-    print(b"\n");
+fn print_refused(rt: &impl Print, number: u8, index: usize) {
+    print(rt, b"refused ");
+    print_number(rt, number as usize);
+    print(rt, b" at ");
+    print_number(rt, index);
+    print(rt, b"\n");
 }
 
 // The answer of a call, with the whole of the output that was lent to it.
-pub(crate) fn print_answer(answer: Filled, units: &[u16], wide: bool) {
-    print(b" room ");
-    print_number(units.len());
-    print(b"\n");
+pub(crate) fn print_answer(rt: &impl Print, answer: Filled, units: &[u16], wide: bool) {
+    print(rt, b" room ");
+    print_number(rt, units.len());
+    print(rt, b"\n");
     match answer {
         Filled::Refused(number, index) => {
-            print_refused(number, index);
-            print_untouched(units, wide);
+            print_refused(rt, number, index);
+            print_untouched(rt, units, wide);
         }
         Filled::Accepted(filled) => {
             if units.len() < filled {
-                print(b"more filled than lent\n");
+                print(rt, b"more filled than lent\n");
                 return;
             }
-            print_accepted(&units[0..filled], wide);
-            print_untouched(&units[filled..], wide);
+            print_accepted(rt, &units[0..filled], wide);
+            print_untouched(rt, &units[filled..], wide);
         }
     }
 }

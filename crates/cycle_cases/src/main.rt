@@ -4,11 +4,14 @@
 
 ghost use Rattle.std.specs.Prelude.{◌+◌, ◌<◌, ◌≤◌, length};
 
-use libc::{STDIN_FILENO, STDOUT_FILENO};
 use machine::{Answer, Completed, Machine, Registers, Report, Turn, Waiting, Words};
+use streams::{fill, print, print_number};
 
 // The bytes of a line, its line feed too.
 const LINE: usize = 35;
+
+// The most cases: more are passed over.
+const MOST_CASES: usize = 1000;
 
 // RAM at the start of every case.
 const RAM: [u16; 32] = [
@@ -16,10 +19,6 @@ const RAM: [u16; 32] = [
     0xFFFF, 0x0080, 0x1021, 0x8408, 0x00C3, 0x10C3, 0x20C3, 0x30C3, 0x40C3, 0x50C3, 0x60C3, 0x70C3,
     0x80C3, 0x90C3, 0xA0C3, 0xB0C3, 0xC0C3, 0xD0C3, 0xE0C3, 0xF0C3,
 ];
-
-fn print(text: &[u8]) {
-    io::write_all(STDOUT_FILENO, text);
-}
 
 fn glyph(digit: u16) -> u8
     requires { digit < 16 }
@@ -32,7 +31,7 @@ fn glyph(digit: u16) -> u8
 }
 
 // A blank and a word as four capital hex digits.
-fn print_word(x: u16) {
+fn print_word(rt: &impl Print, x: u16) {
     let text = [
         b' ',
         glyph(x / 4096),
@@ -40,22 +39,22 @@ fn print_word(x: u16) {
         glyph(x / 16 % 16),
         glyph(x % 16),
     ];
-    print(&text);
+    print(rt, &text);
 }
 
 // A blank and a byte as two capital hex digits.
-fn print_byte(x: u8) {
+fn print_byte(rt: &impl Print, x: u8) {
     let text = [b' ', glyph(x as u16 / 16), glyph(x as u16 % 16)];
-    print(&text);
+    print(rt, &text);
 }
 
 // A blank and a digit, or "-" where it is not below the limit.
-fn print_digit(x: u8, limit: u8) {
+fn print_digit(rt: &impl Print, x: u8, limit: u8) {
     if x < limit {
         let text = [b' ', glyph(x as u16 % 16)];
-        print(&text);
+        print(rt, &text);
     } else {
-        print(b" -");
+        print(rt, b" -");
     }
 }
 
@@ -113,109 +112,105 @@ fn words_of(line: &[u8]) -> Words
     }
 }
 
-fn print_completed(completed: Completed) {
+fn print_completed(rt: &impl Print, completed: Completed) {
     match completed {
-        Completed::NoInstruction => print(b" 0"),
-        Completed::Instruction(_) => print(b" 1"),
+        Completed::NoInstruction => print(rt, b" 0"),
+        Completed::Instruction(_) => print(rt, b" 1"),
     }
 }
 
-fn print_report(report: Report) {
-    print_word(report.y);
-    print_word(report.mask);
-    print_digit(report.ct, 2);
-    print_digit(report.t, 16);
+fn print_report(rt: &impl Print, report: Report) {
+    print_word(rt, report.y);
+    print_word(rt, report.mask);
+    print_digit(rt, report.ct, 2);
+    print_digit(rt, report.t, 16);
     let completed = report.completed;
-    print_completed(completed);
+    print_completed(rt, completed);
 }
 
-fn print_waiting(waiting: Waiting) {
+fn print_waiting(rt: &impl Print, waiting: Waiting) {
     match waiting {
-        Waiting::Nothing => print(b" -"),
-        Waiting::Held(word) => print_word(word),
+        Waiting::Nothing => print(rt, b" -"),
+        Waiting::Held(word) => print_word(rt, word),
     }
 }
 
 // A register that is not what it was; answers how many such there are.
-fn print_register(at: usize, word: u16, changed: usize) -> usize
+fn print_register(rt: &impl Print, at: usize, word: u16, changed: usize) -> usize
     requires { at < 32 }
 {
     if word == RAM[at] {
         return changed;
     }
     let text = [b' ', b'r', (48 + at / 10) as u8, (48 + at % 10) as u8];
-    print(&text);
-    print_word(word);
+    print(rt, &text);
+    print_word(rt, word);
     1
 }
 
-fn print_ram(ram: [u16; 32]) {
-    let mut at: usize = 0;
+fn print_ram(rt: &impl Print, ram: [u16; 32]) {
     let mut changed: usize = 0;
-    while at < 32 {
-        changed = print_register(at, ram[at], changed);
-        at += 1;
+    for at in 0..32usize {
+        changed = print_register(rt, at, ram[at], changed);
     }
     if changed == 0 {
-        print(b" -");
+        print(rt, b" -");
     }
 }
 
-fn print_state(registers: Registers) {
-    print(b" acc");
-    print_word(registers.acc);
-    print(b" d");
-    print_word(registers.latch);
-    print(b" st");
-    print_byte(registers.status);
-    print(b" wait");
+fn print_state(rt: &impl Print, registers: Registers) {
+    print(rt, b" acc");
+    print_word(rt, registers.acc);
+    print(rt, b" d");
+    print_word(rt, registers.latch);
+    print(rt, b" st");
+    print_byte(rt, registers.status);
+    print(rt, b" wait");
     let waiting = registers.waiting;
-    print_waiting(waiting);
+    print_waiting(rt, waiting);
     let ram = registers.ram;
-    print_ram(ram);
+    print_ram(rt, ram);
 }
 
-fn print_turn(turn: Turn) {
+fn print_turn(rt: &impl Print, turn: Turn) {
     let answer = turn.answer;
     let machine = turn.machine;
     let registers = machine.registers;
     match answer {
         Answer::Accepted(report) => {
-            print_report(report);
-            print_state(registers);
+            print_report(rt, report);
+            print_state(rt, registers);
         }
         Answer::Refused(number) => {
-            print(b" refused ");
-            io::print_decimal(STDOUT_FILENO, number as u64);
+            print(rt, b" refused ");
+            print_number(rt, number as u64);
         }
     }
 }
 
-fn print_case(line: &[u8])
+fn print_case(rt: &impl Print, line: &[u8])
     requires { 34 ≤ length line.now }
 {
-    print(&line[0..34]);
-    print(b" >");
-    print_turn(machine::cycle(start(line), words_of(line)));
-    print(b"\n");
+    print(rt, &line[0..34]);
+    print(rt, b" >");
+    print_turn(rt, machine::cycle(start(line), words_of(line)));
+    print(rt, b"\n");
 }
 
-fn print_cases(text: &[u8], cases: usize) {
-    let mut case: usize = 0;
-    while case < cases {
-        if 1000 <= case {
+fn print_cases(rt: &impl Print, text: &[u8], cases: usize) {
+    for case in 0..cases {
+        if MOST_CASES <= case {
             return;
         }
         let at = case * LINE;
         if at + LINE <= text.len() {
-            print_case(&text[at..at + LINE]);
+            print_case(rt, &text[at..at + LINE]);
         }
-        case += 1;
     }
 }
 
-fn main() {
+fn main(rt: HostRuntime) {
     let mut text = [0u8; 8192];
-    let length = io::read_full(STDIN_FILENO, &mut text);
-    print_cases(&text, length / LINE);
+    let input = fill(&mut rt.stdin(), &mut text);
+    print_cases(&rt, &text, input.bytes / LINE);
 }

@@ -4,8 +4,8 @@
 
 ghost use Rattle.std.specs.Prelude.{◌≡◌, ◌≤◌, length};
 
-use libc::STDOUT_FILENO;
 use listing::{Printed, Read};
+use streams::print;
 
 // Room for a line that has each blank twice and one at both ends.
 const SPACED_BYTES: usize = 64;
@@ -35,21 +35,17 @@ struct Tally {
 
 // One more. A count is at most 65,536 and never wraps.
 fn more(n: u32) -> u32 {
-    std::num::wrapping_add_u32(n, 1)
+    n.wrapping_add(1)
 }
 
-fn print(text: &[u8]) {
-    io::write_all(STDOUT_FILENO, text);
+fn print_number(rt: &impl Print, n: u64) {
+    print(rt, b" ");
+    streams::print_number(rt, n);
 }
 
-fn print_number(n: u64) {
-    print(b" ");
-    io::print_decimal(STDOUT_FILENO, n);
-}
-
-fn print_count(n: u32) {
-    print_number(n as u64);
-    print(b"\n");
+fn print_count(rt: &impl Print, n: u32) {
+    print_number(rt, n as u64);
+    print(rt, b"\n");
 }
 
 // Whether this is what was read.
@@ -62,19 +58,14 @@ fn is_word(read: Read, word: u16) -> bool {
 
 // The index of the first such byte, or the line's length.
 fn find(line: &[u8], byte: u8) -> usize {
-    let mut at: usize = 0;
-    while at < line.len() {
-        if line[at] == byte {
-            return at;
-        }
-        at += 1;
-    }
-    at
+    line.iter()
+        .position(|found| *found == byte)
+        .unwrap_or(line.len())
 }
 
 // The index after the first blank: the mode letter's.
 fn mode_at(line: &[u8]) -> usize {
-    std::num::wrapping_add_usize(find(line, b' '), 1)
+    find(line, b' ').wrapping_add(1)
 }
 
 fn other_mode(letter: u8) -> u8 {
@@ -109,12 +100,9 @@ fn spread(line: &[u8], blanks: &mut [u8]) -> usize
     ensures { result ≤ 64 }
 {
     let mut at: usize = 1;
-    let mut i: usize = 0;
-    while i < line.len() {
-        let byte = line[i];
-        blanks[at] = byte;
-        at += width(byte);
-        i += 1;
+    for byte in line {
+        blanks[at] = *byte;
+        at += width(*byte);
     }
     at + 1
 }
@@ -240,101 +228,101 @@ fn count_data(tally: Tally, operand: u16) -> Tally {
     next
 }
 
-fn print_words(tally: Tally) {
-    print(b"printed");
-    print_count(tally.printed);
-    print(b"word refused 7");
-    print_count(tally.word_seven);
-    print(b"word refused 8");
-    print_count(tally.word_eight);
-    print(b"word refused 9");
-    print_count(tally.word_nine);
-    print(b"back");
-    print_count(tally.back);
-    print(b"spaced back");
-    print_count(tally.spaced_back);
+fn print_words(rt: &impl Print, tally: Tally) {
+    print(rt, b"printed");
+    print_count(rt, tally.printed);
+    print(rt, b"word refused 7");
+    print_count(rt, tally.word_seven);
+    print(rt, b"word refused 8");
+    print_count(rt, tally.word_eight);
+    print(rt, b"word refused 9");
+    print_count(rt, tally.word_nine);
+    print(rt, b"back");
+    print_count(rt, tally.back);
+    print(rt, b"spaced back");
+    print_count(rt, tally.spaced_back);
 }
 
-fn print_changed(tally: Tally) {
-    print(b"line refused 7");
-    print_count(tally.line_seven);
-    print(b"line refused 9");
-    print_count(tally.line_nine);
-    print(b"turned");
-    print_count(tally.turned);
-    print(b"astray");
-    print_count(tally.astray);
-    print(b"line refused 8");
-    print_count(tally.line_eight);
-    print(b"columns");
-    print_count(tally.columns);
-    print(b"data back");
-    print_count(tally.data_back);
+fn print_changed(rt: &impl Print, tally: Tally) {
+    print(rt, b"line refused 7");
+    print_count(rt, tally.line_seven);
+    print(rt, b"line refused 9");
+    print_count(rt, tally.line_nine);
+    print(rt, b"turned");
+    print_count(rt, tally.turned);
+    print(rt, b"astray");
+    print_count(rt, tally.astray);
+    print(rt, b"line refused 8");
+    print_count(rt, tally.line_eight);
+    print(rt, b"columns");
+    print_count(rt, tally.columns);
+    print(rt, b"data back");
+    print_count(rt, tally.data_back);
 }
 
 // A word in hex, as data is written.
-fn print_word(word: u16) {
+fn print_word(rt: &impl Print, word: u16) {
     let mut digits = [0u8; listing::DATA_BYTES];
     match listing::data_line(word, &mut digits) {
         Printed::Refused(_) => {}
         Printed::Filled(_) => {
-            print(b" ");
-            print(&digits);
+            print(rt, b" ");
+            print(rt, &digits);
         }
     }
 }
 
 // A line between quotes, and what it gives: a word, or a refusal and its column.
-fn print_read(line: &[u8], read: Read) {
-    print(b"'");
-    print(line);
-    print(b"'");
+fn print_read(rt: &impl Print, line: &[u8], read: Read) {
+    print(rt, b"'");
+    print(rt, line);
+    print(rt, b"'");
     match read {
-        Read::Word(word) => print_word(word),
+        Read::Word(word) => print_word(rt, word),
         Read::Refused(number, column) => {
-            print_number(number as u64);
-            print_number(column as u64);
+            print_number(rt, number as u64);
+            print_number(rt, column as u64);
         }
     }
-    print(b"\n");
+    print(rt, b"\n");
 }
 
-fn show(line: &[u8]) {
-    print_read(line, listing::word_of(line));
+fn show(rt: &impl Print, line: &[u8]) {
+    print_read(rt, line, listing::word_of(line));
 }
 
-fn show_data(line: &[u8]) {
-    print(b"data ");
-    print_read(line, listing::data_of(line));
+fn show_data(rt: &impl Print, line: &[u8]) {
+    print(rt, b"data ");
+    print_read(rt, line, listing::data_of(line));
 }
 
-fn show_lines() {
-    show(b"");
-    show(b"SOR");
-    show(b"SORX W MOVE SOSE 7");
-    show(b"SOR X MOVE SOSE 7");
-    show(b"SOR W MOVE SOA 7");
-    show(b"SOR W MOVE SOSE");
-    show(b"SOR W MOVE SOSE 32");
-    show(b"SOR W MOVE SOSE 07");
-    show(b"SOR W MOVE SOSE 7 X");
-    show(b"SOR W MOVE SOSE 07 X");
-    show(b"NOOP W");
-    show(b"NOOP W X");
-    show(b"PRTNR B PRA PRTA NRY");
-    show(b"BOR1 B 8 SETNR 0");
-    show(b"  SOR  W MOVE SOSE 7 ");
+fn show_lines(rt: &impl Print) {
+    show(rt, b"");
+    show(rt, b"SOR");
+    show(rt, b"SORX W MOVE SOSE 7");
+    show(rt, b"SOR X MOVE SOSE 7");
+    show(rt, b"SOR W MOVE SOA 7");
+    show(rt, b"SOR W MOVE SOSE");
+    show(rt, b"SOR W MOVE SOSE 32");
+    show(rt, b"SOR W MOVE SOSE 07");
+    show(rt, b"SOR W MOVE SOSE 7 X");
+    show(rt, b"SOR W MOVE SOSE 07 X");
+    show(rt, b"NOOP W");
+    show(rt, b"NOOP W X");
+    show(rt, b"PRTNR B PRA PRTA NRY");
+    show(rt, b"BOR1 B 8 SETNR 0");
+    show(rt, b"  SOR  W MOVE SOSE 7 ");
 }
 
-fn show_data_lines() {
-    show_data(b"0F1A");
-    show_data(b"0f1A");
-    show_data(b"0F1");
-    show_data(b"0F1A 0");
-    show_data(b"");
+fn show_data_lines(rt: &impl Print) {
+    show_data(rt, b"0F1A");
+    show_data(rt, b"0f1A");
+    show_data(rt, b"0F1");
+    show_data(rt, b"0F1A 0");
+    show_data(rt, b"");
 }
 
-fn main() {
+fn main(rt: HostRuntime) {
     let mut tally = Tally {
         printed: 0,
         word_seven: 0,
@@ -350,14 +338,12 @@ fn main() {
         columns: 0,
         data_back: 0,
     };
-    let mut word: u32 = 0;
-    while word < 65536 {
-        tally = count_word(tally, word as u16);
-        tally = count_data(tally, word as u16);
-        word += 1;
+    for word in 0..=u16::MAX {
+        tally = count_word(tally, word);
+        tally = count_data(tally, word);
     }
-    print_words(tally);
-    print_changed(tally);
-    show_lines();
-    show_data_lines();
+    print_words(&rt, tally);
+    print_changed(&rt, tally);
+    show_lines(&rt);
+    show_data_lines(&rt);
 }

@@ -6,8 +6,8 @@ ghost use Rattle.std.specs.Prelude.{◌<◌, ◌≤◌};
 
 use alu::{BitKind, OneOperandKind, ShiftKind, TwoOperandKind};
 use isa::{Decoded, Named};
-use libc::STDOUT_FILENO;
 use plan::{Chooser, Destination, Operands, Plan, Shown, Source, Task, Work};
+use streams::{print, print_number};
 
 // Counts by place: 42 operations, 7 sources for each of three operands, 5 destinations, 3 ways to show, 2 choosers, and the two sums.
 #[derive(Clone, Copy)]
@@ -36,7 +36,7 @@ fn counted(tally: Tally, place: usize) -> Tally
     requires { place < 75 }
 {
     let mut next = tally;
-    next.counts[place] = std::num::wrapping_add_u32(tally.counts[place], 1);
+    next.counts[place] = tally.counts[place].wrapping_add(1);
     next
 }
 
@@ -214,69 +214,74 @@ fn count_word(tally: Tally, word: u16) -> Tally {
     }
 }
 
-fn print(text: &[u8]) {
-    io::write_all(STDOUT_FILENO, text);
-}
-
 // Writes the word of a text that starts at a place, and answers where the next one starts. A blank ends a word.
-fn print_word(text: &[u8], from: usize) -> usize {
-    let mut i = from;
-    while i < text.len() {
+fn print_word(rt: &impl Print, text: &[u8], from: usize) -> usize {
+    for i in from..text.len() {
         if text[i] == b' ' {
             return i + 1;
         }
-        print(&text[i..i + 1]);
-        i += 1;
+        print(rt, &text[i..i + 1]);
     }
-    i
+    from.max(text.len())
 }
 
-fn print_count(n: u32) {
-    print(b" ");
-    io::print_decimal(STDOUT_FILENO, n as u64);
-    print(b"\n");
+fn print_count(rt: &impl Print, n: u32) {
+    print(rt, b" ");
+    print_number(rt, n as u64);
+    print(rt, b"\n");
 }
 
 // A line for each of some counts from a place on: what kind of count it is, its name and the count.
-fn print_group(kind: &[u8], names: &[u8], tally: Tally, from: usize, to: usize)
+fn print_group(rt: &impl Print, kind: &[u8], names: &[u8], tally: Tally, from: usize, to: usize)
     requires { to ≤ 75 }
 {
-    let mut place = from;
     let mut next: usize = 0;
-    while place < to {
-        print(kind);
-        next = print_word(names, next);
-        print_count(tally.counts[place]);
-        place += 1;
+    for place in from..to {
+        print(rt, kind);
+        next = print_word(rt, names, next);
+        print_count(rt, tally.counts[place]);
     }
 }
 
-fn print_tally(tally: Tally) {
+fn print_tally(rt: &impl Print, tally: Tally) {
     let operations =
         b"SUBR SUBRC SUBS SUBSC ADD ADDC AND NAND EXOR NOR OR EXNOR MOVE COMP INC NEG SETN RSTN TSTN LD2N LDC2N A2N S2N SHUPZ SHUP1 SHUPL SHDNZ SHDN1 SHDNL SHDNC SHDNOV ROTATE MERGE COMPARE PRIORITIZE CRCF CRCR SAVE SETST RSTST TEST NOOP ";
     let sources = b"ZERO RAM ACC D I D0E DSE ";
-    print_group(b"operation ", operations, tally, 0, FIRST);
-    print_group(b"first ", sources, tally, FIRST, SECOND);
-    print_group(b"second ", sources, tally, SECOND, MASK);
-    print_group(b"mask ", sources, tally, MASK, DESTINATION);
+    print_group(rt, b"operation ", operations, tally, 0, FIRST);
+    print_group(rt, b"first ", sources, tally, FIRST, SECOND);
+    print_group(rt, b"second ", sources, tally, SECOND, MASK);
+    print_group(rt, b"mask ", sources, tally, MASK, DESTINATION);
     print_group(
+        rt,
         b"destination ",
         b"Y ACC RAM STATUS BOTH ",
         tally,
         DESTINATION,
         SHOWN,
     );
-    print_group(b"shown ", b"WIDTH WHOLE NOTHING ", tally, SHOWN, CHOOSER);
-    print_group(b"chooser ", b"PINS INSTRUCTION ", tally, CHOOSER, IMMEDIATE);
-    print_group(b"", b"immediate ram ", tally, IMMEDIATE, 75);
+    print_group(
+        rt,
+        b"shown ",
+        b"WIDTH WHOLE NOTHING ",
+        tally,
+        SHOWN,
+        CHOOSER,
+    );
+    print_group(
+        rt,
+        b"chooser ",
+        b"PINS INSTRUCTION ",
+        tally,
+        CHOOSER,
+        IMMEDIATE,
+    );
+    print_group(rt, b"", b"immediate ram ", tally, IMMEDIATE, 75);
 }
 
-fn main() {
+fn main(rt: HostRuntime) {
     let mut tally = Tally { counts: [0; 75] };
-    let mut word: u32 = 0;
-    while word < 65536 {
-        tally = count_word(tally, word as u16);
-        word += 1;
+    for word in 0..=u16::MAX {
+        tally = count_word(tally, word);
     }
-    print_tally(tally);
+    print_tally(&rt, tally);
 }

@@ -5,7 +5,7 @@
 ghost use Rattle.std.specs.Prelude.{◌<◌};
 
 use isa::{Decoded, Encoded, Family, Named};
-use libc::STDOUT_FILENO;
+use streams::{print, print_number};
 
 #[derive(Clone, Copy)]
 struct Tally {
@@ -20,7 +20,7 @@ struct Tally {
 
 // One more. There are 65,536 words, so a count never wraps.
 fn more(n: u32) -> u32 {
-    std::num::wrapping_add_u32(n, 1)
+    n.wrapping_add(1)
 }
 
 // Where a family is counted: its place in document 01's list.
@@ -58,46 +58,42 @@ fn place(family: Family) -> usize
     }
 }
 
-fn print_name(at: usize) {
+fn print_name(rt: &impl Print, at: usize) {
     match at {
-        0 => print(b"TOR1"),
-        1 => print(b"ROTR1"),
-        2 => print(b"ROTR2"),
-        3 => print(b"ROTC"),
-        4 => print(b"ROTM"),
-        5 => print(b"SOR"),
-        6 => print(b"BOR2"),
-        7 => print(b"TOR2"),
-        8 => print(b"SHFTR"),
-        9 => print(b"CRCF"),
-        10 => print(b"CRCR"),
-        11 => print(b"PRT1"),
-        12 => print(b"PRT2"),
-        13 => print(b"PRT3"),
-        14 => print(b"SVSTR"),
-        15 => print(b"SONR"),
-        16 => print(b"TONR"),
-        17 => print(b"SHFTNR"),
-        18 => print(b"BOR1"),
-        19 => print(b"BONR"),
-        20 => print(b"ROTNR"),
-        21 => print(b"PRTNR"),
-        22 => print(b"SVSTNR"),
-        23 => print(b"SETST"),
-        24 => print(b"RSTST"),
-        25 => print(b"TEST"),
-        _ => print(b"NOOP"),
+        0 => print(rt, b"TOR1"),
+        1 => print(rt, b"ROTR1"),
+        2 => print(rt, b"ROTR2"),
+        3 => print(rt, b"ROTC"),
+        4 => print(rt, b"ROTM"),
+        5 => print(rt, b"SOR"),
+        6 => print(rt, b"BOR2"),
+        7 => print(rt, b"TOR2"),
+        8 => print(rt, b"SHFTR"),
+        9 => print(rt, b"CRCF"),
+        10 => print(rt, b"CRCR"),
+        11 => print(rt, b"PRT1"),
+        12 => print(rt, b"PRT2"),
+        13 => print(rt, b"PRT3"),
+        14 => print(rt, b"SVSTR"),
+        15 => print(rt, b"SONR"),
+        16 => print(rt, b"TONR"),
+        17 => print(rt, b"SHFTNR"),
+        18 => print(rt, b"BOR1"),
+        19 => print(rt, b"BONR"),
+        20 => print(rt, b"ROTNR"),
+        21 => print(rt, b"PRTNR"),
+        22 => print(rt, b"SVSTNR"),
+        23 => print(rt, b"SETST"),
+        24 => print(rt, b"RSTST"),
+        25 => print(rt, b"TEST"),
+        _ => print(rt, b"NOOP"),
     }
 }
 
-fn print(text: &[u8]) {
-    io::write_all(STDOUT_FILENO, text);
-}
-
-fn print_count(n: u32) {
-    print(b" ");
-    io::print_decimal(STDOUT_FILENO, n as u64);
-    print(b"\n");
+fn print_count(rt: &impl Print, n: u32) {
+    print(rt, b" ");
+    print_number(rt, n as u64);
+    print(rt, b"\n");
 }
 
 // Whether the instruction's word is this one.
@@ -141,32 +137,30 @@ fn count_word(tally: Tally, word: u16) -> Tally {
     }
 }
 
-fn print_families(tally: Tally) {
-    let mut at: usize = 0;
-    while at < 27 {
-        print_name(at);
-        print_count(tally.families[at]);
-        at += 1;
+fn print_families(rt: &impl Print, tally: Tally) {
+    for at in 0..27usize {
+        print_name(rt, at);
+        print_count(rt, tally.families[at]);
     }
 }
 
-fn print_tally(tally: Tally) {
-    print(b"accepted");
-    print_count(tally.accepted);
-    print(b"refused 7");
-    print_count(tally.seven);
-    print(b"refused 8");
-    print_count(tally.eight);
-    print(b"refused 9");
-    print_count(tally.nine);
-    print(b"immediate");
-    print_count(tally.immediate);
-    print_families(tally);
-    print(b"back");
-    print_count(tally.back);
+fn print_tally(rt: &impl Print, tally: Tally) {
+    print(rt, b"accepted");
+    print_count(rt, tally.accepted);
+    print(rt, b"refused 7");
+    print_count(rt, tally.seven);
+    print(rt, b"refused 8");
+    print_count(rt, tally.eight);
+    print(rt, b"refused 9");
+    print_count(rt, tally.nine);
+    print(rt, b"immediate");
+    print_count(rt, tally.immediate);
+    print_families(rt, tally);
+    print(rt, b"back");
+    print_count(rt, tally.back);
 }
 
-fn main() {
+fn main(rt: HostRuntime) {
     let mut tally = Tally {
         accepted: 0,
         seven: 0,
@@ -176,10 +170,8 @@ fn main() {
         back: 0,
         families: [0; 27],
     };
-    let mut word: u32 = 0;
-    while word < 65536 {
-        tally = count_word(tally, word as u16);
-        word += 1;
+    for word in 0..=u16::MAX {
+        tally = count_word(tally, word);
     }
-    print_tally(tally);
+    print_tally(&rt, tally);
 }

@@ -3,12 +3,12 @@
 // run or unpacked, by the calls that the programs make.
 #![tactic(auto)]
 
-ghost use Rattle.std.specs.Prelude.{◌<◌, ◌≤◌, length};
-ghost use Rattle.io.specs.Counts.{IsPrefixLen};
+ghost use Rattle.std.specs.Prelude.{◌≡◌, ◌<◌, ◌≤◌, length, take};
 
-use libc::STDOUT_FILENO;
 use lines::Line;
 use pages::PACKED_WORDS;
+use std::rt::{Env, Files};
+use streams::{argument, fill, has_argument, open, print};
 use text::Reader;
 
 // The bytes of a file's name, and the most arguments.
@@ -16,12 +16,11 @@ const NAME_BYTES: usize = 128;
 
 const MOST_ARGUMENTS: usize = 1000;
 
+// The most bytes that are read of a file.
+const FILE_BYTES: usize = 65536;
+
 // Where what was made is not what is expected.
 const WRONG: usize = 0xFFFFFFFF;
-
-fn print(text: &[u8]) {
-    io::write_all(STDOUT_FILENO, text);
-}
 
 // The place after a text in what is expected, if it stands there.
 fn after_text(expected: &[u8], at: usize, text: &[u8]) -> usize {
@@ -31,12 +30,10 @@ fn after_text(expected: &[u8], at: usize, text: &[u8]) -> usize {
     if expected.len() - at < text.len() {
         return WRONG;
     }
-    let mut i: usize = 0;
-    while i < text.len() {
+    for i in 0..text.len() {
         if expected[at + i] != text[i] {
             return WRONG;
         }
-        i += 1;
     }
     at + text.len()
 }
@@ -115,14 +112,12 @@ fn line_end(text: &[u8], from: usize) -> usize
     requires { from < length text.now }
     ensures { (from < result) × (result ≤ length text.now) }
 {
-    let mut i = from;
-    while i < text.len() {
-        i += 1;
-        if text[i - 1] == b'\n' {
-            return i;
+    for i in from..text.len() {
+        if text[i] == b'\n' {
+            return i + 1;
         }
     }
-    i
+    text.len()
 }
 
 // Takes a text line by line.
@@ -181,53 +176,51 @@ fn after_all(kind: u8, text: &[u8], expected: &[u8]) -> usize {
 }
 
 // Reads the file that an argument names, and answers how long it is.
-fn read_file(argument: usize, bytes: &mut [u8]) -> usize
-    ensures { IsPrefixLen result bytes.new }
+fn read_file(rt: &(impl Env + Files), place: usize, bytes: &mut [u8]) -> usize
+    ensures bound { result ≤ length bytes.new }
+    ensures prefix { result ≡ length (take result bytes.new) }
 {
     let mut name = [0u8; NAME_BYTES];
-    let n = os::arg(argument, &mut name);
-    let file = os::open_read(&name[0..n]);
-    let got = io::read_full(file, bytes);
-    libc::close(file);
-    got
+    let n = argument(rt, place, &mut name);
+    match open(rt, &name[0..n]) {
+        Some(mut file) => fill(&mut file, bytes).bytes,
+        None => 0,
+    }
 }
 
 // Whether what comes of the text is all of what is expected.
-fn holds(first: usize) -> bool
+fn holds(rt: &(impl Env + Files), first: usize) -> bool
     requires { first < 1000 }
 {
     let mut kind = [0u8; 1];
-    let letters = os::arg(first, &mut kind);
-    let mut text = io::large_buffer();
-    let length = read_file(first + 1, &mut text);
-    let mut expected = io::large_buffer();
-    let end = read_file(first + 2, &mut expected);
+    argument(rt, first, &mut kind);
+    let mut text = [0u8; FILE_BYTES];
+    let length = read_file(rt, first + 1, &mut text);
+    let mut expected = [0u8; FILE_BYTES];
+    let end = read_file(rt, first + 2, &mut expected);
     let at = after_all(kind[0], &text[0..length], &expected[0..end]);
     if end == 0 { false } else { at == end }
 }
 
 // Prints the name of the text, and whether it holds.
-fn print_case(first: usize)
+fn print_case(rt: &(impl Env + Files + Print), first: usize)
     requires { first < 1000 }
 {
     let mut name = [0u8; NAME_BYTES];
-    let n = os::arg(first + 1, &mut name);
-    print(&name[0..n]);
-    if holds(first) {
-        print(b" as expected\n");
+    let n = argument(rt, first + 1, &mut name);
+    print(rt, &name[0..n]);
+    if holds(rt, first) {
+        print(rt, b" as expected\n");
     } else {
-        print(b" NOT as expected\n");
+        print(rt, b" NOT as expected\n");
     }
 }
 
-fn main() {
-    let count = os::arg_count();
-    let mut first: usize = 1;
-    while first < MOST_ARGUMENTS {
-        if count < first + 3 {
+fn main(rt: HostRuntime) {
+    for first in (1..MOST_ARGUMENTS).step_by(3) {
+        if !has_argument(&rt, first + 2) {
             return;
         }
-        print_case(first);
-        first += 3;
+        print_case(&rt, first);
     }
 }

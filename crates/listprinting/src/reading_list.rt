@@ -5,19 +5,16 @@ use crate::Answered;
 use files::{Files, Input};
 use lines::{Program, Remark};
 use listpages::{PIECE_BYTES, Reading};
+use std::io::{Read, Write};
 
 // The end of the last whole line, 0 where there is none.
 fn whole_lines(bytes: &[u8]) -> usize
     ensures { result ≤ length bytes.now }
 {
-    let mut end = bytes.len();
-    while end > 0 {
-        if bytes[end - 1] == b'\n' {
-            return end;
-        }
-        end -= 1;
+    match bytes.iter().rposition(|byte| *byte == b'\n') {
+        Some(last) => last + 1,
+        None => 0,
     }
-    0
 }
 
 // Moves what stands after `cut` to the front, and answers how much that is.
@@ -26,35 +23,37 @@ fn move_rest(bytes: &mut [u8], cut: usize) -> usize
     ensures { result ≤ length bytes.old }
 {
     let count = bytes.len() - cut;
-    let mut i: usize = 0;
-    while i < count {
+    for i in 0..count {
         bytes[i] = bytes[cut + i];
-        i += 1;
     }
     count
 }
 
 // Reads more bytes after those that are held.
-fn fill_rest(file: i32, bytes: &mut [u8], held: usize) -> Input
+fn fill_rest<R: Read>(input: &mut R, bytes: &mut [u8], held: usize) -> Input
     requires { held ≤ length bytes.old }
     ensures { result.bytes ≤ length bytes.old }
 {
-    let input = files::fill(file, &mut bytes[held..]);
+    let read = files::fill(input, &mut bytes[held..]);
     Input {
-        bytes: held + input.bytes,
-        failed: input.failed,
+        bytes: held + read.bytes,
+        failed: read.failed,
     }
 }
 
 // Writes the answers to some lines. Where that cannot be done, it is said.
-fn answer(reading: Reading, bytes: &[u8], files: Files) -> Answered {
+fn answer<R, W: Write, E: Write>(
+    reading: Reading,
+    bytes: &[u8],
+    files: &mut Files<R, W, E>,
+) -> Answered {
     let mut text = [0u8; listpages::ANSWER_BYTES];
     let read = listpages::read_lines(reading, bytes, &mut text);
     let next = read.reading;
     let output = read.output;
-    let written = files::write_made(files.output, output, &text);
+    let written = files::write_made(&mut files.output, output, &text);
     if !written {
-        files::say(Program::ReadList, Remark::NoOutput, files.errors);
+        files::say(Program::ReadList, Remark::NoOutput, &mut files.errors);
     }
     Answered {
         reading: next,
@@ -63,11 +62,16 @@ fn answer(reading: Reading, bytes: &[u8], files: Files) -> Answered {
 }
 
 // The last bytes of a listing: the line at their end need not be whole. After a failed read only whole lines are answered.
-fn end_list(reading: Reading, bytes: &[u8], failed: bool, files: Files) {
+fn end_list<R, W: Write, E: Write>(
+    reading: Reading,
+    bytes: &[u8],
+    failed: bool,
+    files: &mut Files<R, W, E>,
+) {
     if failed {
         let cut = whole_lines(bytes);
         answer(reading, &bytes[..cut], files);
-        return files::say(Program::ReadList, Remark::NoInput, files.errors);
+        return files::say(Program::ReadList, Remark::NoInput, &mut files.errors);
     }
     let last = answer(reading, bytes, files);
     let next = last.reading;
@@ -75,42 +79,39 @@ fn end_list(reading: Reading, bytes: &[u8], failed: bool, files: Files) {
         files::say(
             Program::ReadList,
             Remark::Unread(next.refused),
-            files.errors,
+            &mut files.errors,
         );
     }
 }
 
-// Takes a listing piece by piece, the first `held` bytes being read already.
-fn take_lines(files: Files, bytes: &mut [u8]) {
+// Takes a listing piece by piece.
+fn take_lines<R: Read, W: Write, E: Write>(files: &mut Files<R, W, E>, bytes: &mut [u8]) {
     let mut state = Reading {
         waits: false,
         refused: 0,
     };
     let mut held: usize = 0;
     // more pieces than there is time for
-    let mut turns = u64::MAX;
-    while turns > 0 {
-        let input = fill_rest(files.input, bytes, held);
+    for _ in 0..u64::MAX {
+        let input = fill_rest(&mut files.input, bytes, held);
         let n = input.bytes;
         if n < bytes.len() {
             return end_list(state, &bytes[..n], input.failed, files);
         }
         let cut = whole_lines(bytes);
         if cut == 0 {
-            return files::say(Program::ReadList, Remark::LongLine, files.errors);
+            return files::say(Program::ReadList, Remark::LongLine, &mut files.errors);
         }
         let next = answer(state, &bytes[..cut], files);
         if !next.written {
             return;
         }
-        let reading = next.reading;
-        state = reading;
+        state = next.reading;
         held = move_rest(bytes, cut);
-        turns -= 1;
     }
 }
 
-pub fn read_list(files: Files) {
+pub fn read_list<R: Read, W: Write, E: Write>(files: &mut Files<R, W, E>) {
     let mut bytes = [0u8; PIECE_BYTES];
     take_lines(files, &mut bytes);
 }

@@ -4,9 +4,10 @@
 
 use lines::Program;
 
-fn main() {
-    if files::asked(Program::ListTrace) {
+fn main(rt: HostRuntime) {
+    let mut files = files::standard(&rt);
+    if files::asked(Program::ListTrace, &rt, &mut files.errors) {
         return;
     }
-    listprinting::list_trace(files::standard());
+    listprinting::list_trace(&mut files);
 }

@@ -4,9 +4,10 @@
 
 use lines::Program;
 
-fn main() {
-    if files::asked(Program::PackTrace) {
+fn main(rt: HostRuntime) {
+    let mut files = files::standard(&rt);
+    if files::asked(Program::PackTrace, &rt, &mut files.errors) {
         return;
     }
-    printing::pack_text(files::standard());
+    printing::pack_text(&mut files);
 }

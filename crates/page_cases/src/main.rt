@@ -4,8 +4,9 @@
 
 ghost use Rattle.std.specs.Prelude.{◌≤◌, ◌<◌, length};
 
-use libc::{STDIN_FILENO, STDOUT_FILENO};
 use lines::Line;
+use std::io::Read;
+use streams::{fill, print, print_number};
 
 // The bytes of a header line, the line feed too.
 const HEADER: usize = 14;
@@ -17,10 +18,6 @@ const CASES: usize = 10000;
 
 // What a number is where it is not written as it should be.
 const TOO_LARGE: usize = 99999;
-
-fn print(text: &[u8]) {
-    io::write_all(STDOUT_FILENO, text);
-}
 
 fn digit(glyph: u8) -> usize
     ensures { result ≤ 99999 }
@@ -44,43 +41,54 @@ fn number_at(header: &[u8; HEADER], at: usize) -> usize
         + digit(header[at + 5])
 }
 
-fn print_title(number: usize) {
-    print(b"case ");
-    io::print_decimal(STDOUT_FILENO, number as u64);
-    print(b"\n");
+fn print_title(rt: &impl Print, number: usize) {
+    print(rt, b"case ");
+    print_number(rt, number as u64);
+    print(rt, b"\n");
 }
 
 // Prints the page of a trace.
-fn print_page(trace: &[u8]) {
+fn print_page(rt: &impl Print, trace: &[u8]) {
     let mut text = [0u8; pages::PAGE_BYTES];
     let mut said = [0u8; lines::REMARK_BYTES];
     let written = pages::run_trace(trace, &mut text, &mut said);
     let output = written.output;
     match output {
-        Line::NoRoom => print(b"no room\n"),
+        Line::NoRoom => print(rt, b"no room\n"),
         Line::Made(n) => {
             if text.len() < n {
-                return print(b"too long\n");
+                return print(rt, b"too long\n");
             }
-            print(&text[..n]);
+            print(rt, &text[..n]);
         }
     }
 }
 
 // Reads the payload into zeros and prints the page, and answers whether the payload is there.
-fn print_payload(number: usize, payload: usize, bytes: &mut [u8]) -> bool
+fn print_payload<R: Read>(
+    rt: &impl Print,
+    from: &mut R,
+    number: usize,
+    payload: usize,
+    bytes: &mut [u8],
+) -> bool
     requires { payload ≤ length bytes.old }
 {
-    if io::read_full(STDIN_FILENO, &mut bytes[0..payload]) < payload {
+    if fill(from, &mut bytes[0..payload]).bytes < payload {
         return false;
     }
-    print_title(number);
-    print_page(bytes);
+    print_title(rt, number);
+    print_page(rt, bytes);
     true
 }
 
 // Prints the case of a header, and answers whether there is one.
-fn print_case(number: usize, header: &[u8; HEADER]) -> bool {
+fn print_case<R: Read>(
+    rt: &impl Print,
+    from: &mut R,
+    number: usize,
+    header: &[u8; HEADER],
+) -> bool {
     let payload = number_at(header, 0);
     let length = payload + number_at(header, 7);
     if header[6] != b' ' || header[13] != b'\n' {
@@ -90,21 +98,20 @@ fn print_case(number: usize, header: &[u8; HEADER]) -> bool {
         return false;
     }
     let mut zeros = [0u8; MOST];
-    print_payload(number, payload, &mut zeros[0..length])
+    print_payload(rt, from, number, payload, &mut zeros[0..length])
 }
 
 // Ends where the input does, or with "bad input" where what comes next is no case.
-fn main() {
-    let mut cases: usize = 0;
-    while cases < CASES {
+fn main(rt: HostRuntime) {
+    let mut from = rt.stdin();
+    for cases in 0..CASES {
         let mut header = [0u8; HEADER];
-        if io::read_full(STDIN_FILENO, &mut header) == 0 {
+        if fill(&mut from, &mut header).bytes == 0 {
             return;
         }
-        cases += 1;
-        if !print_case(cases, &header) {
+        if !print_case(&rt, &mut from, cases + 1, &header) {
             break;
         }
     }
-    print(b"bad input\n");
+    print(&rt, b"bad input\n");
 }

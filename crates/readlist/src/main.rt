@@ -4,9 +4,10 @@
 
 use lines::Program;
 
-fn main() {
-    if files::asked(Program::ReadList) {
+fn main(rt: HostRuntime) {
+    let mut files = files::standard(&rt);
+    if files::asked(Program::ReadList, &rt, &mut files.errors) {
         return;
     }
-    listprinting::read_list(files::standard());
+    listprinting::read_list(&mut files);
 }

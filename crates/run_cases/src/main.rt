@@ -4,9 +4,9 @@
 
 ghost use Rattle.std.specs.Prelude.{◌+◌, ◌<◌, ◌≤◌, length};
 
-use libc::{STDIN_FILENO, STDOUT_FILENO};
 use machine::{Machine, Registers, Waiting};
 use run::{Ending, Ran};
+use streams::{fill, print};
 
 // The bytes of a header line and of a pattern line, the line feed too.
 const HEADER: usize = 52;
@@ -28,10 +28,6 @@ const RAM: [u16; 32] = [
     0x80C3, 0x90C3, 0xA0C3, 0xB0C3, 0xC0C3, 0xD0C3, 0xE0C3, 0xF0C3,
 ];
 
-fn print(text: &[u8]) {
-    io::write_all(STDOUT_FILENO, text);
-}
-
 fn glyph(digit: u16) -> u8
     requires { digit < 16 }
 {
@@ -43,7 +39,7 @@ fn glyph(digit: u16) -> u8
 }
 
 // A word as four capital hex digits, and a byte after it.
-fn print_word(x: u16, after: u8) {
+fn print_word(rt: &impl Print, x: u16, after: u8) {
     let text = [
         glyph(x / 4096),
         glyph(x / 256 % 16),
@@ -51,17 +47,17 @@ fn print_word(x: u16, after: u8) {
         glyph(x % 16),
         after,
     ];
-    print(&text);
+    print(rt, &text);
 }
 
 // A byte as two capital hex digits.
-fn print_byte(x: u8) {
+fn print_byte(rt: &impl Print, x: u8) {
     let text = [glyph(x as u16 / 16), glyph(x as u16 % 16)];
-    print(&text);
+    print(rt, &text);
 }
 
-fn print_number(n: usize) {
-    io::print_decimal(STDOUT_FILENO, n as u64);
+fn print_number(rt: &impl Print, n: usize) {
+    streams::print_number(rt, n as u64);
 }
 
 fn value(glyph: u8) -> u16
@@ -128,10 +124,8 @@ fn repeat(patterns: &[u8], words: &mut [u16])
     requires { 15 ≤ length patterns.now }
 {
     let period = patterns.len() / COLUMN;
-    let mut i: usize = 0;
-    while i < words.len() {
+    for i in 0..words.len() {
         words[i] = word_at(patterns, COLUMN * (i % period));
-        i += 1;
     }
 }
 
@@ -141,59 +135,53 @@ fn mark(place: usize) -> u16 {
 }
 
 fn mark_all(reports: &mut [u16]) {
-    let mut i: usize = 0;
-    while i < reports.len() {
-        reports[i] = mark(i);
-        i += 1;
+    for (i, report) in reports.iter_mut().enumerate() {
+        *report = mark(i);
     }
 }
 
 // The first place from a given one on that has not what stood there before the run, or the length where there is none.
 fn first_touched(reports: &[u16], from: usize) -> usize {
-    let mut i = from;
-    while i < reports.len() {
+    for i in from..reports.len() {
         if reports[i] != mark(i) {
             return i;
         }
-        i += 1;
     }
     reports.len()
 }
 
-fn print_untouched(reports: &[u16], filled: usize) {
+fn print_untouched(rt: &impl Print, reports: &[u16], filled: usize) {
     let touched = first_touched(reports, filled);
     if touched < reports.len() {
-        print(b"touched at ");
-        print_number(touched);
+        print(rt, b"touched at ");
+        print_number(rt, touched);
     } else {
-        print(b"untouched from ");
-        print_number(filled);
+        print(rt, b"untouched from ");
+        print_number(rt, filled);
     }
-    print(b"\n");
+    print(rt, b"\n");
 }
 
-fn print_report(reports: &[u16], at: usize)
+fn print_report(rt: &impl Print, reports: &[u16], at: usize)
     requires { at + 4 ≤ length reports.now }
 {
-    print_word(reports[at], b' ');
-    print_word(reports[at + 1], b' ');
-    print_word(reports[at + 2], b' ');
-    print_word(reports[at + 3], b'\n');
+    print_word(rt, reports[at], b' ');
+    print_word(rt, reports[at + 1], b' ');
+    print_word(rt, reports[at + 2], b' ');
+    print_word(rt, reports[at + 3], b'\n');
 }
 
 // The first six reports, and the last one where there are more.
-fn print_reports(reports: &[u16]) {
-    let mut at: usize = 0;
-    while at < SHOWN {
+fn print_reports(rt: &impl Print, reports: &[u16]) {
+    for at in (0..SHOWN).step_by(REPORT) {
         if reports.len() < at + REPORT {
             return;
         }
-        print_report(reports, at);
-        at += REPORT;
+        print_report(rt, reports, at);
     }
     if SHOWN + REPORT <= reports.len() {
-        print(b"...\n");
-        print_report(reports, reports.len() - REPORT);
+        print(rt, b"...\n");
+        print_report(rt, reports, reports.len() - REPORT);
     }
 }
 
@@ -201,99 +189,95 @@ fn added(sum: u16, word: u16) -> u16 {
     ((31 * sum as u32 + word as u32) % 65536) as u16
 }
 
-fn print_sum(reports: &[u16]) {
+fn print_sum(rt: &impl Print, reports: &[u16]) {
     let mut sum: u16 = 0;
-    let mut i: usize = 0;
-    while i < reports.len() {
-        sum = added(sum, reports[i]);
-        i += 1;
+    for word in reports {
+        sum = added(sum, *word);
     }
-    print(b"sum ");
-    print_word(sum, b'\n');
+    print(rt, b"sum ");
+    print_word(rt, sum, b'\n');
 }
 
-fn print_waiting(waiting: Waiting) {
+fn print_waiting(rt: &impl Print, waiting: Waiting) {
     match waiting {
-        Waiting::Nothing => print(b"-\n"),
-        Waiting::Held(word) => print_word(word, b'\n'),
+        Waiting::Nothing => print(rt, b"-\n"),
+        Waiting::Held(word) => print_word(rt, word, b'\n'),
     }
 }
 
 // A register that is not what it was.
-fn print_register(at: usize, word: u16)
+fn print_register(rt: &impl Print, at: usize, word: u16)
     requires { at < 32 }
 {
     if word == RAM[at] {
         return;
     }
     let text = [b'r', (48 + at / 10) as u8, (48 + at % 10) as u8, b' '];
-    print(&text);
-    print_word(word, b'\n');
+    print(rt, &text);
+    print_word(rt, word, b'\n');
 }
 
-fn print_ram(ram: [u16; 32]) {
-    let mut at: usize = 0;
-    while at < 32 {
-        print_register(at, ram[at]);
-        at += 1;
+fn print_ram(rt: &impl Print, ram: [u16; 32]) {
+    for at in 0..32usize {
+        print_register(rt, at, ram[at]);
     }
 }
 
-fn print_state(machine: Machine) {
+fn print_state(rt: &impl Print, machine: Machine) {
     let registers = machine.registers;
-    print(b"acc ");
-    print_word(registers.acc, b' ');
-    print(b"d ");
-    print_word(registers.latch, b' ');
-    print(b"st ");
-    print_byte(registers.status);
-    print(b" wait ");
+    print(rt, b"acc ");
+    print_word(rt, registers.acc, b' ');
+    print(rt, b"d ");
+    print_word(rt, registers.latch, b' ');
+    print(rt, b"st ");
+    print_byte(rt, registers.status);
+    print(rt, b" wait ");
     let waiting = registers.waiting;
-    print_waiting(waiting);
+    print_waiting(rt, waiting);
     let ram = registers.ram;
-    print_ram(ram);
+    print_ram(rt, ram);
 }
 
-fn print_ending(ending: Ending) {
+fn print_ending(rt: &impl Print, ending: Ending) {
     match ending {
-        Ending::Done => print(b"done"),
-        Ending::Stopped => print(b"stopped"),
+        Ending::Done => print(rt, b"done"),
+        Ending::Stopped => print(rt, b"stopped"),
         Ending::Refused(number, index) => {
-            print(b"refused ");
-            print_number(number as usize);
-            print(b" at ");
-            print_number(index);
+            print(rt, b"refused ");
+            print_number(rt, number as usize);
+            print(rt, b" at ");
+            print_number(rt, index);
         }
     }
 }
 
-fn print_answer(ran: Ran) {
+fn print_answer(rt: &impl Print, ran: Ran) {
     let machine = ran.machine;
     let ending = ran.ending;
-    print_state(machine);
-    print_ending(ending);
-    print(b" accepted ");
-    print_number(ran.accepted);
-    print(b" completed ");
-    print_number(ran.completed);
-    print(b"\n");
+    print_state(rt, machine);
+    print_ending(rt, ending);
+    print(rt, b" accepted ");
+    print_number(rt, ran.accepted);
+    print(rt, b" completed ");
+    print_number(rt, ran.completed);
+    print(rt, b"\n");
 }
 
 // What a run gave, with the whole of the buffer whose first part was lent to it.
-fn print_run(ran: Ran, reports: &[u16]) {
+fn print_run(rt: &impl Print, ran: Ran, reports: &[u16]) {
     let accepted = ran.accepted;
     if reports.len() / REPORT < accepted {
-        print(b"more accepted than there is room for\n");
+        print(rt, b"more accepted than there is room for\n");
         return;
     }
     let filled = REPORT * accepted;
-    print_reports(&reports[0..filled]);
-    print_sum(&reports[0..filled]);
-    print_answer(ran);
-    print_untouched(reports, filled);
+    print_reports(rt, &reports[0..filled]);
+    print_sum(rt, &reports[0..filled]);
+    print_answer(rt, ran);
+    print_untouched(rt, reports, filled);
 }
 
-fn print_case(text: &[u8], words: &mut [u16], reports: &mut [u16])
+fn print_case(rt: &impl Print, text: &[u8], words: &mut [u16], reports: &mut [u16])
     requires { 67 ≤ length text.now }
 {
     let room = count_at(text, 37);
@@ -312,7 +296,7 @@ fn print_case(text: &[u8], words: &mut [u16], reports: &mut [u16])
         budget(text),
         &mut reports[0..room],
     );
-    print_run(ran, reports);
+    print_run(rt, ran, reports);
 }
 
 // The bytes of the case at a place, or 0 where the text does not have it whole.
@@ -331,7 +315,7 @@ fn size_at(text: &[u8], at: usize) -> usize
     size
 }
 
-fn print_cases(text: &[u8], words: &mut [u16], reports: &mut [u16]) {
+fn print_cases(rt: &impl Print, text: &[u8], words: &mut [u16], reports: &mut [u16]) {
     let mut at: usize = 0;
     let mut case: usize = 0;
     while at < text.len() {
@@ -340,18 +324,18 @@ fn print_cases(text: &[u8], words: &mut [u16], reports: &mut [u16]) {
             return;
         }
         case += 1;
-        print(b"case ");
-        print_number(case);
-        print(b"\n");
-        print_case(&text[at..at + size], words, reports);
+        print(rt, b"case ");
+        print_number(rt, case);
+        print(rt, b"\n");
+        print_case(rt, &text[at..at + size], words, reports);
         at += size;
     }
 }
 
-fn main() {
+fn main(rt: HostRuntime) {
     let mut text = [0u8; 14336];
     let mut words = [0u16; 12297];
     let mut reports = [0u16; 16400];
-    let length = io::read_full(STDIN_FILENO, &mut text);
-    print_cases(&text[0..length], &mut words, &mut reports);
+    let length = fill(&mut rt.stdin(), &mut text).bytes;
+    print_cases(&rt, &text[0..length], &mut words, &mut reports);
 }

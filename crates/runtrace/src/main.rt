@@ -4,9 +4,10 @@
 
 use lines::Program;
 
-fn main() {
-    if files::asked(Program::RunTrace) {
+fn main(rt: HostRuntime) {
+    let mut files = files::standard(&rt);
+    if files::asked(Program::RunTrace, &rt, &mut files.errors) {
         return;
     }
-    printing::run_trace(files::standard());
+    printing::run_trace(&mut files);
 }

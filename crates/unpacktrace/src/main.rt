@@ -4,9 +4,10 @@
 
 use lines::Program;
 
-fn main() {
-    if files::asked(Program::UnpackTrace) {
+fn main(rt: HostRuntime) {
+    let mut files = files::standard(&rt);
+    if files::asked(Program::UnpackTrace, &rt, &mut files.errors) {
         return;
     }
-    printing::unpack_trace(files::standard());
+    printing::unpack_trace(&mut files);
 }
