@@ -20,7 +20,7 @@ LAWS = ['goes_on', 'no_key', 'one_more', 'same_names', 'same_place', 'same_text'
 DEFINED = re.compile(
     r'^(?:abbrev\s+|unfoldable\s+)*(?:pub\s+)?(?:abbrev\s+|unfoldable\s+)*([^\s:=(){};,.λ"]+)\s*:\s')
 # a definition within an unnamed module
-NESTED = re.compile(r'^ {2,4}(?:abbrev\s+|unfoldable\s+)*(?:pub\s+)?(?:abbrev\s+|unfoldable\s+)*([^\s:=(){};,.λ"→]+) : ')
+NESTED = re.compile(r'^ {2,}(?:abbrev\s+|unfoldable\s+)*(?:pub\s+)?(?:abbrev\s+|unfoldable\s+)*([^\s:=(){};,.λ"→]+) : ')
 TOKEN = re.compile(r'[^\s(){}\[\];,."`⌜⌝λ→×]+')
 
 

@@ -1,4 +1,4 @@
--- The contract of the C function is its statement (choice, specs/Promises).
+-- The contract of the run that bench_run_c exports to C is its statement (choice, specs/Promises).
 use mathlib.Core.Path.{refl}
 use lib.ListN.{length}
 use Rattle.choice.specs.Promises.{States, first, second}

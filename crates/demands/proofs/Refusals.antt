@@ -50,7 +50,7 @@ use Rattle.trace.specs.Answers.{filled_tells, leaves, Fills}
 use Rattle.trace.specs.Writing.{write_checks}
 use Rattle.trace.proofs.Unique.{filled_one}
 use Rattle.trace.specs.Refusing.{Refuses}
-use Rattle.trace.proofs.Exactly.{read-refuses, write_refuses}
+use Rattle.trace.proofs.Exactly.{read_refuses, write_refuses}
 use Rattle.demands.proofs.Following.{follows, gives_back}
 
 -- reader and writer: an answer is a refusal exactly when the definition's is, and lent output is then as it was
@@ -68,7 +68,7 @@ both_ways f g = ((λ a. g.0 (f.0 a)), (λ c. f.1 (g.1 c)))
 module _ (i : List ℕ × List ℕ) (o : Filling Filled) (p : ReadsTrace i o) (k j : ℕ) (nonzero : k ≡ 0 → ⊥) where
   pub read_refused_exactly : (o.answer ≡ Filled.Refused k j) ↔ Refuses words_per_record i.0 (length i.1) k j
   read_refused_exactly =
-      both_ways (refusal_told _ _ i.1 o.answer o.after p k j) (read-refuses words_per_record i.0 (length i.1) k j nonzero)
+      both_ways (refusal_told _ _ i.1 o.answer o.after p k j) (read_refuses words_per_record i.0 (length i.1) k j nonzero)
 
   pub read_refused_leaves : o.answer ≡ Filled.Refused k j → o.after ≡ i.1
   read_refused_leaves e = untouched _ _ i.1 o.answer o.after p k j e
@@ -151,21 +151,21 @@ module _ (i : RunInput) (o : Filling Ran) (p : Runs i o) where
       ((λ e. ⊎_elim (λ h. absurd (omega (arith, lo, h.1, whole_small))) (λ h. h) (by_start k j e)), (λ h. by_ending h.0 h.1 o.answer.ending (follows i o p h.0).ends))
     where
       -- cycle j is not accepted
-      not-past : whole_number i ≡ 0 → CycleRefused m words i.budget k j → j < o.answer.accepted → ⊥
-      not-past z c h =
+      not_past : whole_number i ≡ 0 → CycleRefused m words i.budget k j → j < o.answer.accepted → ⊥
+      not_past z c h =
           let accepted : k ≡ 0 = sym (ap (λ (t : Tells Report). t.number) c.here) ∙ (follows i o p z).accepted j h in
           omega (arith, lo, accepted)
 
       by_ending : whole_number i ≡ 0 → CycleRefused m words i.budget k j → (x : Ending) → Ends m words (cycles_in (length words)) i.budget o.answer.accepted x → x ≡ Ending.Refused k j
-      by_ending z c Done h = absurd (not-past z c (omega (arith, h.0, c.given)))
-      by_ending z c Stopped h = absurd (not-past z c (omega (arith, h.0, c.paid)))
+      by_ending z c Done h = absurd (not_past z c (omega (arith, h.0, c.given)))
+      by_ending z c Stopped h = absurd (not_past z c (omega (arith, h.0, c.paid)))
       by_ending z c (Ending.Refused l a) h = by_place (ltb o.answer.accepted j) (ltb j o.answer.accepted) refl refl
         where
           by_place : (b d : Bool) → ltb o.answer.accepted j ≡ b → ltb j o.answer.accepted ≡ d → Ending.Refused l a ≡ Ending.Refused k j
           by_place true d q r =
               absurd (refused_numbered (machine_at m words o.answer.accepted) (cycle_at words o.answer.accepted) l h.3
               (sym (ap (λ (t : Tells Report). t.number) h.3) ∙ c.before o.answer.accepted (ltb-true o.answer.accepted j q)))
-          by_place false true q r = absurd (not-past z c (ltb-true j o.answer.accepted r))
+          by_place false true q r = absurd (not_past z c (ltb-true j o.answer.accepted r))
           by_place false false q r =
               let at : o.answer.accepted ≡ j = omega (arith, ltb-false o.answer.accepted j q, ltb-false j o.answer.accepted r) in
               let same : l ≡ k = refused_one l k (sym h.3 ∙ ap (λ (x : ℕ). (turn_at m words x).answer) at ∙ c.here) in

@@ -150,14 +150,14 @@ module _ (e : Emulator) (f : Faithful e) where
       let two : (e both).answer.accepted ≡ 2 = said (λ (s : Summary). s.accepted) both ∙ both_accepted in
       let copied : take 4 (drop (4 * 1) (e both).after) ≡ take 4 (e both).after = w both 1 (omega (arith, two)) in
       let same : ◌≡◌ {A = List ℕ} (1 ∷ 0xFFFF ∷ 0 ∷ 16 ∷ []) (0 ∷ 0 ∷ 0 ∷ 16 ∷ []) = sym (ap (λ (l : List ℕ). take 4 (drop 4 l)) after) ∙ copied ∙ ap (take 4) after in
-      first-differs same
+      first_differs same
     where
       first : List ℕ → ℕ
       first [] = 0
       first (x ∷ l) = x
 
-      first-differs : ◌≡◌ {A = List ℕ} (1 ∷ 0xFFFF ∷ 0 ∷ 16 ∷ []) (0 ∷ 0 ∷ 0 ∷ 16 ∷ []) → ⊥
-      first-differs q =
+      first_differs : ◌≡◌ {A = List ℕ} (1 ∷ 0xFFFF ∷ 0 ∷ 16 ∷ []) (0 ∷ 0 ∷ 0 ∷ 16 ∷ []) → ⊥
+      first_differs q =
           let bad : ◌≡◌ {A = ℕ} 1 0 = ap first q in
           omega (arith, bad)
 

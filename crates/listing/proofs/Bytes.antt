@@ -126,19 +126,19 @@ module _ (k : Keys) (s₀ : List ℕ) (room : length (keys_line k) ≤ length s�
     room_1 = omega (arith, line_long k, p₁.next, puts_long p₁)
 
     module _ (r₂ : ℕ) (s₂ : List ℕ) (p₂ : PutAt (after_blank k.mode) r₁ r₂ s₁ s₂) where
-      pub room-2 : r₂ + length (after_blank k.a) ≤ length s₂
-      room-2 = omega (arith, line_long k, p₁.next, p₂.next, puts_long p₁, puts_long p₂)
+      pub room_2 : r₂ + length (after_blank k.a) ≤ length s₂
+      room_2 = omega (arith, line_long k, p₁.next, p₂.next, puts_long p₁, puts_long p₂)
 
       module _ (r₃ : ℕ) (s₃ : List ℕ) (p₃ : PutAt (after_blank k.a) r₂ r₃ s₂ s₃) where
-        pub room-3 : r₃ + length (after_blank k.b) ≤ length s₃
-        room-3 = omega (arith, line_long k, p₁.next, p₂.next, p₃.next, puts_long p₁, puts_long p₂, puts_long p₃)
+        pub room_3 : r₃ + length (after_blank k.b) ≤ length s₃
+        room_3 = omega (arith, line_long k, p₁.next, p₂.next, p₃.next, puts_long p₁, puts_long p₂, puts_long p₃)
 
         module _ (r₄ : ℕ) (s₄ : List ℕ) (p₄ : PutAt (after_blank k.b) r₃ r₄ s₃ s₄) where
-          pub room-4 : r₄ + length (after_blank k.c) ≤ length s₄
-          room-4 = omega (arith, line_long k, p₁.next, p₂.next, p₃.next, p₄.next, puts_long p₁, puts_long p₂, puts_long p₃, puts_long p₄)
+          pub room_4 : r₄ + length (after_blank k.c) ≤ length s₄
+          room_4 = omega (arith, line_long k, p₁.next, p₂.next, p₃.next, p₄.next, puts_long p₁, puts_long p₂, puts_long p₃, puts_long p₄)
 
-          pub all-put : (r₅ : ℕ) (s₅ : List ℕ) → PutAt (after_blank k.c) r₄ r₅ s₄ s₅ → s₅ ≡ sets s₀ 0 (keys_line k)
-          all-put r₅ s₅ p₅ =
+          pub all_put : (r₅ : ℕ) (s₅ : List ℕ) → PutAt (after_blank k.c) r₄ r₅ s₄ s₅ → s₅ ≡ sets s₀ 0 (keys_line k)
+          all_put r₅ s₅ p₅ =
               let q₄ = puts_join _ _ r₃ r₄ r₅ s₃ s₄ s₅ p₄ p₅ in
               let q₃ = puts_join _ _ r₂ r₃ r₅ s₂ s₃ s₅ p₃ q₄ in
               let q₂ = puts_join _ _ r₁ r₂ r₅ s₁ s₂ s₅ p₂ q₃ in

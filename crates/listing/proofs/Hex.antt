@@ -74,8 +74,8 @@ module _ (a b c d : ℕ) where
       none_c h = rw (lt-ltb a 16 ha, lt-ltb b 16 hb, le-ltb c 16 h)
 
       module _ (hc : c < 16) where
-        pub none-d : 16 ≤ d → 0x10000 ≡ Option.get_or (chain a b c d) 0x10000
-        none-d h = rw (lt-ltb a 16 ha, lt-ltb b 16 hb, lt-ltb c 16 hc, le-ltb d 16 h)
+        pub none_d : 16 ≤ d → 0x10000 ≡ Option.get_or (chain a b c d) 0x10000
+        none_d h = rw (lt-ltb a 16 ha, lt-ltb b 16 hb, lt-ltb c 16 hc, le-ltb d 16 h)
 
         pub all_digits : d < 16 → chain a b c d ≡ some (16 * (16 * (16 * a + b) + c) + d)
         all_digits hd =
@@ -222,11 +222,11 @@ module _ (line : List ℕ) (s : ℕ) (h : s + 4 ≤ length line) where
         at_c l = so 0x10000 (none_c x₀ x₁ x₂ x₃ (omega (arith, ea)) (omega (arith, eb)) (omega (arith, ec)))
 
         module _ (lc : c < 16) (d : ℕ) (ed : d ≡ x₃) where
-          pub at-d : 16 ≤ d → Is 0x10000
-          at-d l = so 0x10000 (none-d x₀ x₁ x₂ x₃ (omega (arith, ea)) (omega (arith, eb)) (omega (arith, ec)) (omega (arith, ed)))
+          pub at_d : 16 ≤ d → Is 0x10000
+          at_d l = so 0x10000 (none_d x₀ x₁ x₂ x₃ (omega (arith, ea)) (omega (arith, eb)) (omega (arith, ec)) (omega (arith, ed)))
 
-          pub at-end : d < 16 → Is (16 * (16 * (16 * a + b) + c) + d)
-          at-end l =
+          pub at_end : d < 16 → Is (16 * (16 * (16 * a + b) + c) + d)
+          at_end l =
               let n : 16 * (16 * (16 * a + b) + c) + d ≡ 16 * (16 * (16 * x₀ + x₁) + x₂) + x₃ = omega (arith, ea, eb, ec, ed) in
               so _ (n ∙ sym (ap (λ (o : Option ℕ). Option.get_or o 0x10000) (all_digits x₀ x₁ x₂ x₃ (omega (arith, ea)) (omega (arith, eb)) (omega (arith, ec)) (omega (arith, ed)))))
 
@@ -253,10 +253,10 @@ module _ (d : ℕ) where
 
   -- its key, and the text of that key
   pub spelt_key : digit d₀ + 256 * (digit d₁ + 256 * (digit d₂ + 256 * digit d₃)) ≡ key_of (data_line d)
-  spelt_key = key-four (digit d₀) (digit d₁) (digit d₂) (digit d₃) ∙ ap key_of (sym spelt_is)
+  spelt_key = key_four (digit d₀) (digit d₁) (digit d₂) (digit d₃) ∙ ap key_of (sym spelt_is)
     where
-      key-four : (a b c d : ℕ) → a + 256 * (b + 256 * (c + 256 * d)) ≡ key_of (a ∷ b ∷ c ∷ d ∷ [])
-      key-four a b c d = omega arith
+      key_four : (a b c d : ℕ) → a + 256 * (b + 256 * (c + 256 * d)) ≡ key_of (a ∷ b ∷ c ∷ d ∷ [])
+      key_four a b c d = omega arith
 
   digit_proper : (x : ℕ) → x < 16 → (0 < digit x) × (digit x < 256)
   digit_proper x l =
@@ -309,12 +309,12 @@ module _ (d : ℕ) (h : d < 0x10000) where
   no_blank x l = ne_eqb (digit x) 32 (λ e. omega (arith, ltb→lt 32 (digit x) (below (λ d. ltb 32 (digit d)) 16 x sound_test l)))
 
   spelt_sound : T (sound (spelt d))
-  spelt_sound = four-clean (eqb (digit (d₀ d)) 32) (eqb (digit (d₁ d)) 32) (eqb (digit (d₂ d)) 32) (eqb (digit (d₃ d)) 32)
+  spelt_sound = four_clean (eqb (digit (d₀ d)) 32) (eqb (digit (d₁ d)) 32) (eqb (digit (d₂ d)) 32) (eqb (digit (d₃ d)) 32)
       (no_blank (d₀ d) (omega arith)) (no_blank (d₁ d) (omega arith)) (no_blank (d₂ d) (omega arith)) (no_blank (d₃ d) (omega arith))
     where
-      four-clean : (p q r s : Bool) → p ≡ false → q ≡ false → r ≡ false → s ≡ false
+      four_clean : (p q r s : Bool) → p ≡ false → q ≡ false → r ≡ false → s ≡ false
           → T (elim p [ true ↦ false | false ↦ elim q [ true ↦ false | false ↦ elim r [ true ↦ false | false ↦ elim s [ true ↦ false | false ↦ true ] ] ] ])
-      four-clean p q r s ep eq er es = rw (ep, eq, er, es) tt
+      four_clean p q r s ep eq er es = rw (ep, eq, er, es) tt
 
 from_texts : (past d : ℕ) (t : List ℕ) (xs : List Item) → texts xs ≡ t ∷ [] → data_in t ≡ some d → data_from past xs ≡ accepted_whole d
 from_texts past d t [] e q = absurd (let z : ◌≡◌ {A = ℕ} 0 1 = cc in omega arith)

@@ -174,13 +174,13 @@ module _ (p : Place) (g : T (good p)) where
   names_sane = (both (every (sane p.names) p.names) _ g).0
 
   pub all_fit : T (every fits p.names)
-  all_fit = fit-from p.names names_sane
+  all_fit = fit_from p.names names_sane
     where
-      fit-from : (ys : List Name) → T (every (sane p.names) ys) → T (every fits ys)
-      fit-from [] t = tt
-      fit-from (y ∷ ys) t =
+      fit_from : (ys : List Name) → T (every (sane p.names) ys) → T (every fits ys)
+      fit_from [] t = tt
+      fit_from (y ∷ ys) t =
           let b = both (sane p.names y) (every (sane p.names) ys) t in
-          by_test (fits y) (sane_fits p.names y b.0) (fit-from ys b.1)
+          by_test (fits y) (sane_fits p.names y b.0) (fit_from ys b.1)
         where
           by_test : (q : Bool) → T q → T (every fits ys) → T (elim q [ true ↦ every fits ys | false ↦ false ])
           by_test true q r = r
@@ -198,11 +198,11 @@ module _ (p : Place) (g : T (good p)) where
   pub value_full : (t : List ℕ) (v : ℕ) → value_in p.names t ≡ some v → full (text_of p v) ≡ true
   value_full t v e =
       let c = by_text (sane p.names) p.names t v names_sane e in
-      ap full ((value_text t v e).0 ∙ sym c.text) ∙ sound-full c.name.text (sane_sound p.names c.name c.tested)
+      ap full ((value_text t v e).0 ∙ sym c.text) ∙ sound_full c.name.text (sane_sound p.names c.name c.tested)
     where
-      sound-full : (t : List ℕ) → T (sound t) → full t ≡ true
-      sound-full [] h = absurd h
-      sound-full (b ∷ bs) h = refl
+      sound_full : (t : List ℕ) → T (sound t) → full t ≡ true
+      sound_full [] h = absurd h
+      sound_full (b ∷ bs) h = refl
 
   module _ (v : ℕ) (f : full (text_of p v) ≡ true) where
     chosen : Chosen (sane p.names) v (text_of p v)

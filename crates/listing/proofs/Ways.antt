@@ -75,8 +75,8 @@ module _ (line : List ℕ) (at i mark : ℕ) (l : i < no_row) (row : Row) (er : 
       after_a : by_a a (items_at line at₁) ≡ wanted
       after_a = value_way line _ ra sa by_a a at₁ va ∙ whole
 
-      pub way-b : (k column : ℕ) → rb ≡ Step.Refused k column → refused_at k column ≡ wanted
-      way-b k column e = refused_way line _ rb sb (by_b a) k column e ∙ after_a
+      pub way_b : (k column : ℕ) → rb ≡ Step.Refused k column → refused_at k column ≡ wanted
+      way_b k column e = refused_way line _ rb sb (by_b a) k column e ∙ after_a
 
       module _ (b at₂ : ℕ) (vb : rb ≡ Step.Value b at₂) (pc : ℕ) (qc : Along same_place no_row (λ j. (form_of (row_at j).family).c) i (placed pc)) (rc : Step)
           (tc : Steps line rc (field past row.c (placed pc) (items_at line at₂))) where
@@ -86,8 +86,8 @@ module _ (line : List ℕ) (at i mark : ℕ) (l : i < no_row) (row : Row) (er : 
         after_b : by_b a b (items_at line at₂) ≡ wanted
         after_b = value_way line _ rb sb (by_b a) b at₂ vb ∙ after_a
 
-        pub way-c : (k column : ℕ) → rc ≡ Step.Refused k column → refused_at k column ≡ wanted
-        way-c k column e = refused_way line _ rc sc (by_c a b) k column e ∙ after_b
+        pub way_c : (k column : ℕ) → rc ≡ Step.Refused k column → refused_at k column ≡ wanted
+        way_c k column e = refused_way line _ rc sc (by_c a b) k column e ∙ after_b
 
         pub way_end : (c at₃ : ℕ) → rc ≡ Step.Value c at₃ → (mode : Mode) → mode ≡ mode_of mark → (r : Read)
             → read_tells r ≡ ended (items_at line at₃) (encoded (record { family = row.family; mode = mode; a = a; b = b; c = c }))

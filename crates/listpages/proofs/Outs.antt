@@ -65,14 +65,14 @@ module _ (words : List ℕ) (n i : ℕ) where
       here : refusal_at waits (line_word words i) ≡ k
       here = sym (ek ∙ ap (refusal_at waits) ew)
 
-      pub said-word : (k ≡ 0 → ⊥) → remark_line ListTrace (Refusal k i w 0) ≡ all
-      said-word z =
+      pub said_word : (k ≡ 0 → ⊥) → remark_line ListTrace (Refusal k i w 0) ≡ all
+      said_word z =
           ap (λ (w : ℕ). remark_line ListTrace (Refusal k i w 0)) ew
           ∙ ap (λ (k : ℕ). remark_line ListTrace (Refusal k i (line_word words i) 0)) (sym here)
           ∙ said_here h false (ne_eqb _ 0 (λ q. z (sym here ∙ q)))
 
-      pub said-next : k ≡ 0 → (waits' : Bool) → waits' ≡ waits_after waits w → said_from waits' (i + 1) (line_words_from words (i + 1) (n - (i + 1))) ≡ all
-      said-next z waits' e =
+      pub said_next : k ≡ 0 → (waits' : Bool) → waits' ≡ waits_after waits w → said_from waits' (i + 1) (line_words_from words (i + 1) (n - (i + 1))) ≡ all
+      said_next z waits' e =
           ap (λ (b : Bool). said_from b (i + 1) (line_words_from words (i + 1) (n - (i + 1)))) (e ∙ ap (waits_after waits) ew)
           ∙ said_here h true (eq-eqb _ 0 (here ∙ z))
 
@@ -142,11 +142,11 @@ module _ (words start : List ℕ) (enough : length (list_text words) ≤ length 
       made : Makes (entry_line waits (line_word words i)) r (take (length text - at) (drop at text)) part
       made = makes_as (ap (entry_line waits) ex) m
 
-      pub list-grown : at + bytes_in r ≤ length text
-      list-grown = grown entry_line waits_after w enough (line_word words i) (line_words_from words (i + 1) (count - (i + 1))) (words_cons words count i h) r part made
+      pub list_grown : at + bytes_in r ≤ length text
+      list_grown = grown entry_line waits_after w enough (line_word words i) (line_words_from words (i + 1) (count - (i + 1))) (words_cons words count i h) r part made
 
-      pub list-turn : (waits' : Bool) → waits' ≡ waits_after waits x → Here (changed text at part) (at + bytes_in r) waits' (i + 1)
-      list-turn waits' e =
+      pub list_turn : (waits' : Bool) → waits' ≡ waits_after waits x → Here (changed text at part) (at + bytes_in r) waits' (i + 1)
+      list_turn waits' e =
           subst (λ (b : Bool). Here (changed text at part) (at + bytes_in r) b (i + 1)) (sym (e ∙ ap (waits_after waits) ex))
           (turn entry_line waits_after w enough (line_word words i) (line_words_from words (i + 1) (count - (i + 1))) (words_cons words count i h) r part made)
 
@@ -175,12 +175,12 @@ module _ (s : Reading) (bytes start : List ℕ) where
 
     module _ (end : ℕ) (l : LineEnds bytes from end) (r : Line) (part : List ℕ)
         (m : Makes (answer_to state (take (end - from) (drop from bytes))) r (take (length text - at) (drop at text)) part) where
-      pub answers-grown : at + bytes_in r ≤ length text
-      answers-grown = grown answer_to after_line a.walks enough (take (end - from) (drop from bytes)) (lines_of (drop (suc end) bytes)) l.lines r part m
+      pub answers_grown : at + bytes_in r ≤ length text
+      answers_grown = grown answer_to after_line a.walks enough (take (end - from) (drop from bytes)) (lines_of (drop (suc end) bytes)) l.lines r part m
 
-      pub answers-turn : (state' : Reading) → state' ≡ after_line state (take (end - from) (drop from bytes)) → Answered (changed text at part) (at + bytes_in r) state' (end + 1)
+      pub answers_turn : (state' : Reading) → state' ≡ after_line state (take (end - from) (drop from bytes)) → Answered (changed text at part) (at + bytes_in r) state' (end + 1)
       unfolding reading_after
-      answers-turn state' e =
+      answers_turn state' e =
           rw (add-one end, e)
           (record {
             walks = turn answer_to after_line a.walks enough (take (end - from) (drop from bytes)) (lines_of (drop (suc end) bytes)) l.lines r part m;

@@ -192,16 +192,16 @@ module _ (t cycles cycles' : List ℕ) (answer : Filled) (reads_all : Reads t an
       words_are : take n cycles' ≡ read_words words_per_record t
       words_are = words_read t cycles cycles' size n reads same_size
 
-      pub page-read : Writes (run_text (take n cycles')) (run_said (take n cycles')) r out errors out' errors' → Writes (page_text t) (page_said t) r out errors out' errors'
+      pub page_read : Writes (run_text (take n cycles')) (run_said (take n cycles')) r out errors out' errors' → Writes (page_text t) (page_said t) r out errors out' errors'
       unfolding page_text page_said
-      page-read w = record {
+      page_read w = record {
         shown = makes_as (ap run_text words_are ∙ sym (is_read t cycles cycles' size n reads same_size (run_text (read_words words_per_record t)) refused_line)) w.shown;
         told = makes_as (ap run_said words_are ∙ sym (is_read t cycles cycles' size n reads same_size (run_said (read_words words_per_record t)) (refusal_said RunTrace))) w.told;
       }
 
-      pub unpacked-read : Makes (text_of (take n cycles')) r.output out out' → Makes [] r.said errors errors' → Writes (unpacked_text t) (unpacked_said t) r out errors out' errors'
+      pub unpacked_read : Makes (text_of (take n cycles')) r.output out out' → Makes [] r.said errors errors' → Writes (unpacked_text t) (unpacked_said t) r out errors out' errors'
       unfolding unpacked_text unpacked_said
-      unpacked-read shown told = record {
+      unpacked_read shown told = record {
         shown = makes_as (ap text_of words_are ∙ sym (is_read t cycles cycles' size n reads same_size (text_of (read_words words_per_record t)) (λ (number index : ℕ). []))) shown;
         told = makes_as (sym (is_read t cycles cycles' size n reads same_size [] (refusal_said UnpackTrace))) told;
       }

@@ -96,24 +96,24 @@ module _ (start : Reader) (piece words₀ said₀ : List ℕ) (at : ℕ) where
       made : Took
       made = record { taken = r; words = words' }
 
-      made-is : made ≡ took
+      made_is : made ≡ took
       unfolding made
-      made-is = ap (λ (x : Taken). record { taken = x; words = words' }) taken_is ∙ ap (λ (l : List ℕ). record { taken = took.taken; words = l }) words_are
+      made_is = ap (λ (x : Taken). record { taken = x; words = words' }) taken_is ∙ ap (λ (l : List ℕ). record { taken = took.taken; words = l }) words_are
 
       goes : gather_from state (drop from piece) words ≡ gathered_after made 0 (drop from piece)
-      goes = gather_take 0 state (drop from piece) words ∙ ap (λ (x : Took). gathered_after x 0 (drop from piece)) (sym made-is)
+      goes = gather_take 0 state (drop from piece) words ∙ ap (λ (x : Took). gathered_after x 0 (drop from piece)) (sym made_is)
 
       says : Says state.faults 0 (length (drop from piece)) made
-      says = subst (Says state.faults 0 (length (drop from piece))) (sym made-is) (take_says 0 state (drop from piece) words)
+      says = subst (Says state.faults 0 (length (drop from piece))) (sym made_is) (take_says 0 state (drop from piece) words)
 
       by_stop : (x : Stop) → r.stop ≡ x → made ≡ record { taken = record { reader = r.reader; bytes = r.bytes; stop = x }; words = words' }
       unfolding made
       by_stop x e = ap (λ (s : Stop). record { taken = record { reader = r.reader; bytes = r.bytes; stop = s }; words = words' }) e
 
       -- the piece is at its end
-      pub at-end : r.stop ≡ Stop.TextEnd → Taking words' said r.reader end (from + r.bytes)
+      pub at_end : r.stop ≡ Stop.TextEnd → Taking words' said r.reader end (from + r.bytes)
       unfolding gather_from
-      at-end e =
+      at_end e =
           let ended = by_stop Stop.TextEnd e in
           let s = subst (Says state.faults 0 (length (drop from piece))) ended says in
           let rest : gather_from state (drop from piece) words ≡ record { reader = r.reader; words = words'; faults = [] } = goes ∙ ap (λ (x : Took). gathered_after x 0 (drop from piece)) ended in
@@ -137,9 +137,9 @@ module _ (start : Reader) (piece words₀ said₀ : List ℕ) (at : ℕ) where
           }
 
       -- a line is bad
-      pub after-fault : (f : Fault) → r.stop ≡ Stop.Bad f → (end' : ℕ) (said' : List ℕ) → Puts (pick (ltb state.faults most_named) (fault_line f) []) end end' said said'
+      pub after_fault : (f : Fault) → r.stop ≡ Stop.Bad f → (end' : ℕ) (said' : List ℕ) → Puts (pick (ltb state.faults most_named) (fault_line f) []) end end' said said'
           → length said' ≡ length said → Taking words' said' r.reader end' (from + r.bytes)
-      after-fault f e end' said' p long =
+      after_fault f e end' said' p long =
           let bad = by_stop (Stop.Bad f) e in
           let counted : r.reader.faults ≡ one_more state.faults = subst (Says state.faults 0 (length (drop from piece))) bad says in
           let onward : drop (r.bytes - 0) (drop from piece) ≡ drop (from + r.bytes) piece =

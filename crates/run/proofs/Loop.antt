@@ -65,7 +65,7 @@ module _ {words : List ℕ} {budget : ℕ} {start : Machine} {reports₀ : List 
   telling m close n k = record { machine = m; ending = placed close n; accepted = n; completed = k }
 
   closes : (close : Tells Finish) (ending : Ending) → ending_tells ending ≡ placed close i → whole ≡ preceded b.past (closing close) → Gives start whole (ran ending) reports₀ reports
-  closes close ending e w = rw w (record { answer = told; written = left-as-was })
+  closes close ending e w = rw w (record { answer = told; written = left_as_was })
     where
       none_more : b.past ++ [] ≡ b.past
       none_more = append-nil b.past
@@ -81,8 +81,8 @@ module _ {words : List ℕ} {budget : ℕ} {start : Machine} {reports₀ : List 
       size : length (reports_of b.past) ≡ words_per_report * i
       size = reports_length b.past ∙ ap (λ (n : ℕ). words_per_report * n) b.accepted
 
-      left-as-was : reports ≡ reports_of (b.past ++ []) ++ drop (length (reports_of (b.past ++ []))) reports₀
-      left-as-was = rw (none_more, size, ← b.filled, ← b.rest) (sym (take-append-drop (words_per_report * i) reports))
+      left_as_was : reports ≡ reports_of (b.past ++ []) ++ drop (length (reports_of (b.past ++ []))) reports₀
+      left_as_was = rw (none_more, size, ← b.filled, ← b.rest) (sym (take-append-drop (words_per_report * i) reports))
 
   -- no cycle is left
   pub finishes : cycles ≤ i → Gives start whole (ran Done) reports₀ reports

@@ -57,8 +57,8 @@ module _ (w : ℕ) (t : List ℕ) (room : ℕ) where
             let all = all_sound (block_refusals w 0 (trace_blocks t)) 0 n (accepted_whole (record_count (trace_blocks t))) sound in
             blocks_decide ∙ all.1 (read_end w (record_count (trace_blocks t)) room) ∙ ap (λ (x : ℕ). read_end w x room) (whole_one (record_count (trace_blocks t)) n all.0)
 
-        pub read-over : most_cycles < n → refused_at 2 0 ≡ read_of w t room
-        read-over h = rw (end_decides, lt-ltb most_cycles n h)
+        pub read_over : most_cycles < n → refused_at 2 0 ≡ read_of w t room
+        read_over h = rw (end_decides, lt-ltb most_cycles n h)
 
         module _ (h : n ≤ most_cycles) where
           pub read_short : room < w * n → refused_at 3 0 ≡ read_of w t room
@@ -78,9 +78,9 @@ module _ (w n room : ℕ) where
     write_2 h = rw (eq-eqb (n % w) 0 whole, lt-ltb most_cycles (n / w) h)
 
     module _ (few : n / w ≤ most_cycles) where
-      pub write-3 : room < blocks_for n * block_bytes → refused_at 3 0 ≡ write_of w n room
+      pub write_3 : room < blocks_for n * block_bytes → refused_at 3 0 ≡ write_of w n room
       unfolding write_of
-      write-3 h = rw (eq-eqb (n % w) 0 whole, le-ltb most_cycles (n / w) few, lt-ltb room (blocks_for n * block_bytes) h)
+      write_3 h = rw (eq-eqb (n % w) 0 whole, le-ltb most_cycles (n / w) few, lt-ltb room (blocks_for n * block_bytes) h)
 
       pub write_done : blocks_for n * block_bytes ≤ room → accepted_whole (blocks_for n * block_bytes) ≡ write_of w n room
       unfolding write_of

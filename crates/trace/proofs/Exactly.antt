@@ -1,6 +1,6 @@
 -- Each number of the reader and the writer is given exactly when its condition holds and no earlier one does: by the length `whole_eleven`,
 -- `whole_two`, of a block `block_twelve` and on, at the end `end_two`, `end_three`, of the writer `write_one` and on; then `write_refuses` and, last,
--- `read-refuses`.
+-- `read_refuses`.
 use mathlib.Core.Path.{◌≡◌, refl, sym, ap, subst, ◌∙◌}
 use mathlib.Core.Bool.{Bool, true, false, not}
 use mathlib.Core.Logic.{◌↔◌}
@@ -179,11 +179,11 @@ module _ (w : ℕ) (t : List ℕ) where
       refused_by : read_of w t room ≡ refused_at k i → Refuses w t room k i
       refused_by e = by_test (eqb (whole_number w t) 0) refl
         where
-          by-found : whole_number w t ≡ 0 → after_from w (block_count t) t 0 end ≡ refused_at k i → Found → Refuses w t room k i
-          by-found z f (all_pass sound) =
+          by_found : whole_number w t ≡ 0 → after_from w (block_count t) t 0 end ≡ refused_at k i → Found → Refuses w t room k i
+          by_found z f (all_pass sound) =
               let given = (checks_decide (end_number w t room) (w * record_count (trace_blocks t)) k i some).0 (sym (end_decides sound) ∙ f) in
               by_end z sound given.0 given.1
-          by-found z f (first_at j h sound n) =
+          by_found z f (first_at j h sound n) =
               let both = refused_at_one (block_number w t j) k j i (sym (block_decides j h sound n) ∙ f) in
               by_block z (subst (λ (x : ℕ). x < block_count t) both.1 h)
               (λ l g. sound l (subst (λ (x : ℕ). l < x) (sym both.1) g))
@@ -192,7 +192,7 @@ module _ (w : ℕ) (t : List ℕ) where
           by_test : (b : Bool) → eqb (whole_number w t) 0 ≡ b → Refuses w t room k i
           by_test true q =
               let z : whole_number w t ≡ 0 = eqb-true (whole_number w t) 0 q in
-              by-found z (sym (blocks_decide z) ∙ e) (look (block_count t) 0 (zero-add (block_count t)) (λ j h. absurd (omega arith)))
+              by_found z (sym (blocks_decide z) ∙ e) (look (block_count t) 0 (zero-add (block_count t)) (λ j h. absurd (omega arith)))
           by_test false q =
               let both = refused_at_one (whole_number w t) k 0 i (sym (whole_decides (eqb-false (whole_number w t) 0 q)) ∙ e) in
               by_length both.0 (sym both.1)
@@ -204,5 +204,5 @@ module _ (w : ℕ) (t : List ℕ) where
       refuses_so (by_end z sound e zero-index) =
           blocks_decide z ∙ end_decides sound ∙ (checks_decide (end_number w t room) (w * record_count (trace_blocks t)) k i some).1 (e, zero-index)
 
-      pub read-refuses : (read_of w t room ≡ refused_at k i) ↔ Refuses w t room k i
-      read-refuses = (refused_by, refuses_so)
+      pub read_refuses : (read_of w t room ≡ refused_at k i) ↔ Refuses w t room k i
+      read_refuses = (refused_by, refuses_so)

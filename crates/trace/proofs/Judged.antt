@@ -107,11 +107,11 @@ module _ (w m : ℕ) (t : List ℕ) where
         ap (λ (x : ℕ). after_from k (accepted_whole x)) counted ∙ after_step k h (accepted_whole (n + count_of (block k) + record_count (from (k + 1))))
 
     module _ (given : ℕ) (e : given ≡ number k) where
-      pub judged-refused : (given ≡ 0 → ⊥) → refused_at given k ≡ judged_from k n
-      judged-refused d = rw (step, ← e, ne_eqb given 0 d)
+      pub judged_refused : (given ≡ 0 → ⊥) → refused_at given k ≡ judged_from k n
+      judged_refused d = rw (step, ← e, ne_eqb given 0 d)
 
-      pub judged-sound : given ≡ 0 → (x : ℕ) → x ≡ count_of (block k) → judged_from (k + 1) (n + x) ≡ judged_from k n
-      judged-sound z x ex = rw (step, ← e, eq-eqb given 0 z, ex)
+      pub judged_sound : given ≡ 0 → (x : ℕ) → x ≡ count_of (block k) → judged_from (k + 1) (n + x) ≡ judged_from k n
+      judged_sound z x ex = rw (step, ← e, eq-eqb given 0 z, ex)
 
     -- where all is accepted, block k is sound and so is the rest
     pub accepted_step : (y : ℕ) → judged_from k n ≡ accepted_whole y

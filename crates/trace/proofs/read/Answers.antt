@@ -4,7 +4,7 @@ use Prim.Native.Nat.{◌*◌}
 use native.Mathlib.Omega.{arith}
 use lib.ListN.{length}
 use Rattle.trace.specs.Answers.{filled_tells}
-use Rattle.trace.proofs.Answered.{refuses, accepts, read_11, read_many, read_refused, read-over, read_short, read_done}
+use Rattle.trace.proofs.Answered.{refuses, accepts, read_11, read_many, read_refused, read_over, read_short, read_done}
 use Rattle.trace.proofs.read.Goals as goal
 
 pub returns-then-trace-ne0 : goal.returns-then-trace-ne0
@@ -18,7 +18,7 @@ returns-then-blocks-gt-MOST_BLOCKS c =
 pub returns-then-records-gt-MOST_CYCLES : goal.returns-then-records-gt-MOST_CYCLES
 returns-then-records-gt-MOST_CYCLES c =
     let sound = sym c.judge.ensures ∙ ap filled_tells c.in-Accepted.is in
-    refuses 2 0 (read-over 3 c.args.trace.now (length c.args.cycles.now) c.if-trace-ne0.false c.if-blocks-gt-MOST_BLOCKS.false c.in-Accepted.records sound c.if-records-gt-MOST_CYCLES.true)
+    refuses 2 0 (read_over 3 c.args.trace.now (length c.args.cycles.now) c.if-trace-ne0.false c.if-blocks-gt-MOST_BLOCKS.false c.in-Accepted.records sound c.if-records-gt-MOST_CYCLES.true)
 
 pub returns-then-cycles-records : goal.returns-then-cycles-records
 returns-then-cycles-records c =

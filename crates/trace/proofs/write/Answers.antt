@@ -2,7 +2,7 @@
 use Prim.Native.Nat.{◌*◌}
 use lib.ListN.{length}
 use Rattle.trace.specs.Limits.{blocks_for}
-use Rattle.trace.proofs.Answered.{refuses, accepts, write_1, write_2, write-3, write_done}
+use Rattle.trace.proofs.Answered.{refuses, accepts, write_1, write_2, write_3, write_done}
 use Rattle.trace.proofs.write.Goals as goal
 
 pub returns-then-words-ne0 : goal.returns-then-words-ne0
@@ -15,7 +15,7 @@ returns-then-words-gt-MOST_CYCLES c =
 
 pub returns-then-trace-blocks : goal.returns-then-trace-blocks
 returns-then-trace-blocks c =
-    refuses 3 0 (write-3 3 (length c.args.words.now) (length c.args.trace.now) c.if-words-ne0.false c.if-words-gt-MOST_CYCLES.false c.if-trace-blocks.true)
+    refuses 3 0 (write_3 3 (length c.args.words.now) (length c.args.trace.now) c.if-words-ne0.false c.if-words-gt-MOST_CYCLES.false c.if-trace-blocks.true)
 
 pub returns : goal.returns
 returns c =

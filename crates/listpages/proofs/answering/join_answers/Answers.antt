@@ -1,5 +1,5 @@
 -- `listpages::answering::join_answers` meets its contract.
-use Rattle.listpages.proofs.Outs.{next_reading, answers_begun, answers_at, answers-grown, answers-turn, answers_ended, answers_long}
+use Rattle.listpages.proofs.Outs.{next_reading, answers_begun, answers_at, answers_grown, answers_turn, answers_ended, answers_long}
 use native.Mathlib.Omega.{arith}
 use Rattle.listpages.proofs.answering.join_answers.Goals as goal
 
@@ -25,7 +25,7 @@ pub slice_bounds-answer_line-start-in-loop-from : goal.slice_bounds-answer_line-
 slice_bounds-answer_line-start-in-loop-from c = answers_at c.args.reading c.args.bytes.now c.args.text.now c.requires c.loop-from.text c.loop-from.at c.loop-from.state c.loop-from.from c.loop-from.invariant
 
 pub overflow_add-at : goal.overflow_add-at
-overflow_add-at c = omega (arith, c.bytes_in-at.ensures, answers-grown c.args.reading c.args.bytes.now c.args.text.now c.requires c.loop-from.text c.loop-from.at c.loop-from.state c.loop-from.from c.loop-from.invariant c.line_end-end.result c.line_end-end.ensures _ _ c.answer_line-answer.ensures.made)
+overflow_add-at c = omega (arith, c.bytes_in-at.ensures, answers_grown c.args.reading c.args.bytes.now c.args.text.now c.requires c.loop-from.text c.loop-from.at c.loop-from.state c.loop-from.from c.loop-from.invariant c.line_end-end.result c.line_end-end.ensures _ _ c.answer_line-answer.ensures.made)
 
 pub overflow_add-from : goal.overflow_add-from
 overflow_add-from c = omega (arith, c.line_end-end.ensures.bound)
@@ -34,7 +34,7 @@ pub loop-from-smaller : goal.loop-from-smaller
 loop-from-smaller c = omega (arith, c.line_end-end.ensures.later, c.loop-from-test.true)
 
 pub loop-from-preserved : goal.loop-from-preserved
-loop-from-preserved c = rw c.bytes_in-at.ensures (answers-turn c.args.reading c.args.bytes.now c.args.text.now c.requires c.loop-from.text c.loop-from.at c.loop-from.state c.loop-from.from c.loop-from.invariant c.line_end-end.result c.line_end-end.ensures _ _ c.answer_line-answer.ensures.made _ (next_reading c.loop-from.state _ _ _ _ _ c.answer_line-answer.ensures c.count.ensures))
+loop-from-preserved c = rw c.bytes_in-at.ensures (answers_turn c.args.reading c.args.bytes.now c.args.text.now c.requires c.loop-from.text c.loop-from.at c.loop-from.state c.loop-from.from c.loop-from.invariant c.line_end-end.result c.line_end-end.ensures _ _ c.answer_line-answer.ensures.made _ (next_reading c.loop-from.state _ _ _ _ _ c.answer_line-answer.ensures c.count.ensures))
 
 pub shape_of-text : goal.shape_of-text
 shape_of-text c = answers_long c.args.reading c.args.bytes.now c.args.text.now c.loop-from.text c.loop-from.at c.loop-from.state c.loop-from.from c.loop-from.invariant

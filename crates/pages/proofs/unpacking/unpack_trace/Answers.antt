@@ -2,7 +2,7 @@
 use native.Mathlib.Omega.{arith}
 use lib.ListN.{length-take}
 use Rattle.lines.proofs.Answered.{nothing_made}
-use Rattle.pages.proofs.Outs.{read_le, unpacked_refused, unpacked-read}
+use Rattle.pages.proofs.Outs.{read_le, unpacked_refused, unpacked_read}
 use borrow.Author.Rules.{rules}
 use Rattle.pages.proofs.unpacking.unpack_trace.Goals as goal
 
@@ -19,4 +19,4 @@ pub returns-in-Refused : goal.returns-in-Refused
 returns-in-Refused c = unpacked_refused c.args.trace.now _ _ _ c.read.ensures (search rules) _ _ _ _ _ _ _ c.in-Refused.is (nothing_made _) c.say_refused.ensures
 
 pub returns-in-Accepted : goal.returns-in-Accepted
-returns-in-Accepted c = unpacked-read c.args.trace.now _ _ _ c.read.ensures (search rules) _ _ _ _ _ _ c.in-Accepted.is (search rules) c.unpack_words.ensures (nothing_made _)
+returns-in-Accepted c = unpacked_read c.args.trace.now _ _ _ c.read.ensures (search rules) _ _ _ _ _ _ c.in-Accepted.is (search rules) c.unpack_words.ensures (nothing_made _)

@@ -2,7 +2,7 @@
 use mathlib.Core.Path.{refl, sym, ◌∙◌}
 use native.Mathlib.Omega.{arith}
 use Rattle.trace.proofs.Parts.{block_long}
-use Rattle.trace.proofs.Judged.{judged_all, judged_end, judged-refused, judged-sound, count_at}
+use Rattle.trace.proofs.Judged.{judged_all, judged_end, judged_refused, judged_sound, count_at}
 use Rattle.trace.proofs.judging.judge.Goals as goal
 
 pub loop-k-init : goal.loop-k-init
@@ -35,7 +35,7 @@ block_refusal-number-requires c = block_long c.loop-k.k c.args.blocks c.args.tra
 pub returns-then-number-ne0 : goal.returns-then-number-ne0
 returns-then-number-ne0 c =
     let loop = c.loop-k in
-    judged-refused 3 c.args.blocks c.args.trace.now loop.k loop.records c.loop-k-test.true c.block_refusal-number.result c.block_refusal-number.ensures c.if-number-ne0.true
+    judged_refused 3 c.args.blocks c.args.trace.now loop.k loop.records c.loop-k-test.true c.block_refusal-number.result c.block_refusal-number.ensures c.if-number-ne0.true
     ∙ loop.invariant.2 ∙ judged_all 3 c.args.blocks c.args.trace.now
 
 pub overflow_add-at-in-loop-k : goal.overflow_add-at-in-loop-k
@@ -62,7 +62,7 @@ loop-k-preserved c =
     let count = c.wide-records.ensures.0 ∙ count_at 3 c.args.blocks c.args.trace.now loop.k in (
       omega arith,
       omega arith,
-      judged-sound 3 c.args.blocks c.args.trace.now loop.k loop.records c.loop-k-test.true c.block_refusal-number.result c.block_refusal-number.ensures c.if-number-ne0.false
+      judged_sound 3 c.args.blocks c.args.trace.now loop.k loop.records c.loop-k-test.true c.block_refusal-number.result c.block_refusal-number.ensures c.if-number-ne0.false
           c.wide-records.result count ∙ loop.invariant.2,
     )
 
