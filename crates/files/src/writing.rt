@@ -1,11 +1,19 @@
 // Output, what is said where it fails, and the lines of usage.
+ghost use Rattle.std.specs.Prelude.{◌≡◌, IsTrue};
+ghost use Rattle.std.specs.Io.KnownBytes.{Appends};
+ghost use Rattle.lines.specs.Remarks.{remark_line};
+ghost use Rattle.files.specs.Writing.{made_text, AppendsStart, WritesBoth};
+
 use crate::Files;
 use lines::{Line, Program, Remark};
 use std::io::Write;
 use streams::write_all;
 
 // Writes text that was made, and answers whether it went out. Text that has no room is not written.
-pub fn write_made<W: Write>(output: &mut W, made: Line, text: &[u8]) -> bool {
+pub fn write_made<W: Write>(output: &mut W, made: Line, text: &[u8]) -> bool
+    ensures all { IsTrue result → Appends (W.contents output.old) (W.contents output.new) (made_text made text.now) }
+    ensures start { AppendsStart (W.contents output.old) (W.contents output.new) (made_text made text.now) }
+{
     match made {
         Line::NoRoom => false,
         Line::Made(n) => {
@@ -18,7 +26,9 @@ pub fn write_made<W: Write>(output: &mut W, made: Line, text: &[u8]) -> bool {
 }
 
 // Says one thing, a line.
-pub fn say<E: Write>(program: Program, remark: Remark, errors: &mut E) {
+pub fn say<E: Write>(program: Program, remark: Remark, errors: &mut E)
+    ensures { AppendsStart (E.contents errors.old) (E.contents errors.new) (remark_line program remark) }
+{
     let mut text = [0u8; lines::REMARK_BYTES];
     let made = lines::remark_line(program, remark, &mut text);
     write_made(errors, made, &text);
@@ -32,7 +42,11 @@ pub fn write_both<R, W: Write, E: Write>(
     told: Line,
     text: &[u8],
     said: &[u8],
-) {
+)
+    ensures input { files.new.input ≡ files.old.input }
+    ensures both { WritesBoth program (made_text output text.now) (made_text told said.now)
+        (W.contents files.old.output) (E.contents files.old.errors) (W.contents files.new.output) (E.contents files.new.errors) }
+{
     if !write_made(&mut files.output, output, text) {
         say(program, Remark::NoOutput, &mut files.errors);
     }

@@ -1,13 +1,41 @@
--- `reading::count_rest`: what is kept of any length is short.
-use Rattle.std.proofs.Common.{◌+◌, arith}
+-- `reading::count_rest`: what is kept of any length is short, and counts what was taken.
+use Rattle.std.proofs.Common.{rules, ◌≡◌, ℕ, ◌+◌, ◌≤◌, List, [], ◌++◌, length, take, ap, ◌∙◌, arith}
+use Rattle.std.proofs.KnownBytes.{Consumes-nil, Consumes-trans}
+use Rattle.trace.specs.Layout.{words_per_record}
+use Rattle.trace.specs.Limits.{kept_length}
 use Rattle.trace.proofs.Long.{kept_lt}
+use Rattle.files.proofs.Kept.{counted_more, all_taken}
 use Rattle.files.proofs.reading.count_rest.Goals as goal
 
 pub loop-init : goal.loop-init
-loop-init g c = omega (arith, c.kept-kept.ensures, kept_lt 3 c.args.first)
+loop-init g c =
+    let same : c.args.first ≡ c.args.first + 0 = omega arith in
+    (omega (arith, c.kept-kept.ensures, kept_lt 3 c.args.first), ([], Consumes-nil _, c.kept-kept.ensures ∙ ap (kept_length words_per_record) same))
 
 pub returns-then-read-lt-CHUNK : goal.returns-then-read-lt-CHUNK
-returns-then-read-lt-CHUNK g c = omega (arith, c.kept-kept-in-loop.ensures, kept_lt 3 (c.loop.kept + c.fill-read.result.bytes))
+returns-then-read-lt-CHUNK g c =
+    let n = c.fill-read.result.bytes in
+    let chunk = c.fill-read.new.bytes in
+    let (taken, consumed, kept) = c.loop.invariant.1 in
+    let fits : n ≤ length chunk = search rules in
+    record {
+      short = omega (arith, c.kept-kept-in-loop.ensures, kept_lt 3 (c.loop.kept + n));
+      counted = λ q. all_taken _ _ (taken ++ take n chunk) (λ xs. c.kept-kept-in-loop.result ≡ kept_length words_per_record (c.args.first + length xs))
+          (Consumes-trans _ _ _ _ _ consumed c.fill-read.ensures.read)
+          (c.fill-read.ensures.end q (search rules))
+          (counted_more c.args.first n c.loop.kept c.kept-kept-in-loop.result taken chunk fits kept c.kept-kept-in-loop.ensures);
+    }
 
 pub loop-preserved : goal.loop-preserved
-loop-preserved g c = omega (arith, c.kept-kept-in-loop.ensures, kept_lt 3 (c.loop.kept + c.fill-read.result.bytes))
+loop-preserved g c =
+    let n = c.fill-read.result.bytes in
+    let chunk = c.fill-read.new.bytes in
+    let (taken, consumed, kept) = c.loop.invariant.1 in
+    let fits : n ≤ length chunk = search rules in (
+      omega (arith, c.kept-kept-in-loop.ensures, kept_lt 3 (c.loop.kept + n)),
+      (
+        taken ++ take n chunk,
+        Consumes-trans _ _ _ _ _ consumed c.fill-read.ensures.read,
+        counted_more c.args.first n c.loop.kept c.kept-kept-in-loop.result taken chunk fits kept c.kept-kept-in-loop.ensures,
+      ),
+    )
