@@ -11,7 +11,6 @@ use Rattle.bench_trace.proofs.firanbekwo_read.Goals as goal
 known-fills : (answer : Placed ℕ) (r known : Filled) → filled_tells r ≡ answer → r ≡ known → filled_of (filled_tells known) ≡ filled_of answer
 known-fills answer r known told e = ap filled_of (sym (ap filled_tells e) ∙ told)
 
-
 pub returns-in-Accepted : goal.returns-in-Accepted
 returns-in-Accepted c =
     let reads = c.read.ensures in
