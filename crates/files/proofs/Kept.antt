@@ -1,6 +1,6 @@
 -- What is kept of an input that was taken in parts.
 use Rattle.std.specs.Prelude.{Option}
-use Rattle.std.proofs.Common.{◌≡◌, ℕ, ◌+◌, ◌%◌, ◌≤◌, ◌<◌, Bool, true, false, List, [], ◌++◌, length, take, None, Some, IfSome, refl, sym, ap, ◌∙◌, subst, arith, append-nil, length-append, length-take-le}
+use Rattle.std.proofs.Common.{◌≡◌, ℕ, ◌+◌, ◌%◌, ◌≤◌, ◌<◌, Bool, true, false, List, ◌++◌, length, take, None, Some, IfSome, refl, sym, ap, ◌∙◌, subst, arith, append-nil, length-append, length-take-le}
 use Rattle.std.specs.Io.KnownBytes.{Consumes, IsAtEnd}
 use lib.Dec.{ltb}
 use borrow.Author.Tests.{ltb-true, ltb-false}
@@ -25,11 +25,11 @@ all_taken (Some x) (Some y) taken P e q p = subst P (sym (e ∙ ap (λ l. taken 
 
 -- an input that has room is kept as long as it is
 pub kept_within : (n : ℕ) → n < too_long words_per_record + block_bytes → n ≡ kept_length words_per_record n
-kept_within n h = by-test (ltb n (too_long words_per_record)) refl
+kept_within n h = by_test (ltb n (too_long words_per_record)) refl
   where
-    by-test : (b : Bool) → ltb n (too_long words_per_record) ≡ b → n ≡ kept_length words_per_record n
-    by-test true q = kept_short words_per_record n (ltb-true n (too_long words_per_record) q)
-    by-test false q =
+    by_test : (b : Bool) → ltb n (too_long words_per_record) ≡ b → n ≡ kept_length words_per_record n
+    by_test true q = kept_short words_per_record n (ltb-true n (too_long words_per_record) q)
+    by_test false q =
         let long : too_long words_per_record ≤ n = ltb-false n (too_long words_per_record) q in
         let same : n ≡ too_long words_per_record + n % block_bytes = omega arith in
         same ∙ kept_long words_per_record n long

@@ -2,7 +2,7 @@
 ghost use Rattle.std.specs.Prelude.{◌≡◌, IsTrue};
 ghost use Rattle.std.specs.Io.KnownBytes.{Appends};
 ghost use Rattle.lines.specs.Remarks.{remark_line};
-ghost use Rattle.files.specs.Writing.{made_text, AppendsStart, WritesBoth};
+ghost use Rattle.files.specs.Writing.{made_text, AppendsStart, IsWhole, WritesBoth};
 
 use crate::Files;
 use lines::{Line, Program, Remark};
@@ -11,6 +11,7 @@ use streams::write_all;
 
 // Writes text that was made, and answers whether it went out. Text that has no room is not written.
 pub fn write_made<W: Write>(output: &mut W, made: Line, text: &[u8]) -> bool
+    ensures whole { IsTrue result → IsWhole made text.now }
     ensures all { IsTrue result → Appends (W.contents output.old) (W.contents output.new) (made_text made text.now) }
     ensures start { AppendsStart (W.contents output.old) (W.contents output.new) (made_text made text.now) }
 {
@@ -44,7 +45,7 @@ pub fn write_both<R, W: Write, E: Write>(
     said: &[u8],
 )
     ensures input { files.new.input ≡ files.old.input }
-    ensures both { WritesBoth program (made_text output text.now) (made_text told said.now)
+    ensures both { WritesBoth program output text.now (made_text told said.now)
         (W.contents files.old.output) (E.contents files.old.errors) (W.contents files.new.output) (E.contents files.new.errors) }
 {
     if !write_made(&mut files.output, output, text) {

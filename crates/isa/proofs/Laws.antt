@@ -1,8 +1,8 @@
 -- What holds of words and named instructions: both round trips, one family to a word, each number exactly when its condition
 -- holds, and one answer to each call.
 -- The laws, in this order: `family_in`, `one_family`, `encode_decode`, `encode_small`, `decode_encode`, `word_answered`, `named_answered`,
--- `word_seven`, `word_eight`, `word_nine`, `named_seven`, `named_eight`, `named_nine`, `number_of_named`, `accepted_word_lem`, `slot_accepts_lem`, `decode_unique`, `look_up_unique`,
--- `encode_unique`, `number_of_unique`, `numbered_row_unique`, `takes_immediate_unique`.
+-- `word_seven`, `word_eight`, `word_nine`, `named_seven`, `named_eight`, `named_nine`, `number_of_named`, `accepted_word_lem`,
+-- `slot_accepts_lem`, `decode_unique`, `look_up_unique`, `encode_unique`, `number_of_unique`, `numbered_row_unique`, `takes_immediate_unique`.
 use mathlib.Core.Path.{◌≡◌, refl, ◌∙◌, sym, ap, subst}
 use mathlib.Core.Bool.{Bool, true, false, not}
 use mathlib.Core.List.{List, [], ◌∷◌}

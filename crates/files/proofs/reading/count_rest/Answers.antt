@@ -1,5 +1,5 @@
 -- `reading::count_rest`: what is kept of any length is short, and counts what was taken.
-use Rattle.std.proofs.Common.{rules, ◌≡◌, ℕ, ◌+◌, ◌≤◌, List, [], ◌++◌, length, take, ap, ◌∙◌, arith}
+use Rattle.std.proofs.Common.{rules, ◌≡◌, ◌+◌, ◌≤◌, [], ◌++◌, length, take, ap, ◌∙◌, arith}
 use Rattle.std.proofs.KnownBytes.{Consumes-nil, Consumes-trans}
 use Rattle.trace.specs.Layout.{words_per_record}
 use Rattle.trace.specs.Limits.{kept_length}

@@ -1,6 +1,5 @@
 -- `reading::read_trace`: an input that ends within the room is there whole, and of a longer one the rest is counted.
-use Rattle.std.proofs.Common.{rules, ◌≡◌, ℕ, ◌+◌, ◌≤◌, ◌<◌, List, length, take, refl, sym, subst, arith, length-take-le, take_all}
-use Rattle.std.specs.Io.KnownBytes.{Consumes}
+use Rattle.std.proofs.Common.{rules, ◌≡◌, ◌+◌, ◌≤◌, length, take, refl, arith, length-take-le}
 use Rattle.trace.specs.Layout.{words_per_record, block_bytes}
 use Rattle.trace.specs.Limits.{too_long}
 use Rattle.files.specs.Keeping.{IsKeptOf}

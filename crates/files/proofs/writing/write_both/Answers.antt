@@ -12,5 +12,5 @@ returns-clause-both g c = elim c.if-not-write_made.branch [
       inr (rw w.files-is c.write_made.ensures.start, (m, (n, Appends-trans _ _ _ _ _ refused told)))
   | else-not-write_made w ↦
       let told = rw w.files-is at c.write_made-2.ensures.start in
-      inl (rw w.files-is (c.write_made.ensures.all (search rules)), told)
+      inl (c.write_made.ensures.whole (search rules), rw w.files-is (c.write_made.ensures.all (search rules)), told)
 ]
