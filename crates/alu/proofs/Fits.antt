@@ -1,13 +1,12 @@
 -- What the code computes fits the word that it is put into.
 use mathlib.Core.Path.{◌≡◌, sym, ap, ◌∙◌, subst}
 use Prim.Native.Nat.{ℕ, ◌+◌, ◌-◌, ◌*◌, ◌/◌, ◌^◌, ◌≤◌, ◌<◌}
-use native.Mathlib.Nat.{mod-lt, mod-eq_of_lt, mul-le-mul_left}
+use native.Mathlib.Nat.{mod-lt}
 use native.Mathlib.Omega.{arith}
 use lib.Arith.{digits_lt}
 use lib.Pow.{pow_pos, pow-add, shr_lt, ones_sub-lt}
 use lib.Count.{count_leading_zeros, leading_length, leading_unique}
 use lib.Dec.{lit≤, lit<}
-use lib.Bits.{bit_and, and_lt}
 use Rattle.alu.specs.declared.Mode.{Mode}
 use Rattle.alu.specs.declared.Mode.TheVariants.{Byte, Word}
 use Rattle.alu.specs.Width.{width_of, low, complement}
@@ -28,25 +27,12 @@ pub complement_lt : (w x : ℕ) → complement w x < 2 ^ w
 unfolding complement
 complement_lt w x = ones_sub-lt w (low w x)
 
-pub unmasked_low : (w source mask : ℕ) → low w (bit_and (low w source) (complement w mask)) ≡ bit_and (low w source) (complement w mask)
-unmasked_low w source mask = mod-eq_of_lt (and_lt w (low w source) (complement w mask) (low_lt w source) (complement_lt w mask))
-
--- a word moved up by at most 16 places, and a word below it
-pub moved_fits : (a b left : ℕ) → a < 65536 → b ≤ 65536 → left ≤ a → a * b + left < 4294967296
-moved_fits a b left h l m =
-    let p : a * b ≤ a * 65536 = mul-le-mul_left a l in
-    omega arith
-
 -- an upper part that stays, and any part below it
 pub kept_fits : (w old part : ℕ) → w ≤ 16 → old < 65536 → part < 2 ^ w → old / 2 ^ w * 2 ^ w + part < 65536
 kept_fits w old part l h p =
     let e : (16 - w) + w ≡ 16 = omega arith in
     subst (λ (x : ℕ). old / 2 ^ w * 2 ^ w + part < x) (sym (pow-add 2 (16 - w) w) ∙ ap (λ (x : ℕ). 2 ^ x) e)
     (digits_lt (shr_lt (16 - w) w (subst (λ (x : ℕ). old < 2 ^ x) (sym e) h)) p)
-
-pub write_back_fits : (mode : Mode) (old size part : ℕ) → old < 65536 → size ≡ 2 ^ width_of mode → part < 2 ^ width_of mode
-    → old / size * size + part < 65536
-write_back_fits mode old size part h e p = rw e (kept_fits (width_of mode) old part (width_at_most_16 mode) h p)
 
 -- zeros above a narrow number, counted in 16 bits
 pub zeros_narrow : (w a : ℕ) → w ≤ 16 → a < 2 ^ w → count_leading_zeros w a + (16 - w) ≡ count_leading_zeros 16 a

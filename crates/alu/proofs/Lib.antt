@@ -10,3 +10,4 @@ pub mod Changes
 pub mod Carries
 pub mod Columns
 pub mod Highest
+pub mod Turned

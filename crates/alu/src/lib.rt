@@ -14,21 +14,17 @@ ghost use Rattle.std.specs.Prelude.{◌≡◌};
 ghost use Rattle.alu.specs.Width.{width_of, write_back};
 ghost use Rattle.alu.specs.Operations.{outcome_of};
 
-use logic::{bit_operation, one_operand, two_operand};
-use priority::prioritize;
-use rotates::{compare, merge, rotate};
-use shifts::{crc_forward, crc_reverse, shift};
-use width::{low, size};
+use flags::Setting;
 
 // Bit 15 of a word: how wide the instruction works.
-#[derive(Clone, Copy)]
+#[derive(Clone, Copy, Debug, PartialEq, Eq)]
 pub enum Mode {
     Byte,
     Word,
 }
 
 // Operations 0 to 11.
-#[derive(Clone, Copy)]
+#[derive(Clone, Copy, Debug, PartialEq, Eq)]
 pub enum TwoOperandKind {
     SMinusR,
     SMinusRWithCarry,
@@ -45,7 +41,7 @@ pub enum TwoOperandKind {
 }
 
 // MOVE, COMP, INC and NEG.
-#[derive(Clone, Copy)]
+#[derive(Clone, Copy, Debug, PartialEq, Eq)]
 pub enum OneOperandKind {
     Move,
     Complement,
@@ -54,7 +50,7 @@ pub enum OneOperandKind {
 }
 
 // What is done with bit n, or with 2^n.
-#[derive(Clone, Copy)]
+#[derive(Clone, Copy, Debug, PartialEq, Eq)]
 pub enum BitKind {
     SetBit,
     ResetBit,
@@ -66,7 +62,7 @@ pub enum BitKind {
 }
 
 // Which way a shift goes, and what comes in.
-#[derive(Clone, Copy)]
+#[derive(Clone, Copy, Debug, PartialEq, Eq)]
 pub enum ShiftKind {
     UpWithZero,
     UpWithOne,
@@ -79,7 +75,7 @@ pub enum ShiftKind {
 }
 
 // One operation with its operands. Only their parts at the width count, and n counts modulo the width.
-#[derive(Clone, Copy)]
+#[derive(Clone, Copy, Debug, PartialEq, Eq)]
 pub enum Operation {
     TwoOperand {
         kind: TwoOperandKind,
@@ -130,7 +126,7 @@ pub enum Operation {
 }
 
 // What an operation puts on Y, below the width, and the whole status after it.
-#[derive(Clone, Copy)]
+#[derive(Clone, Copy, Debug, PartialEq, Eq)]
 pub struct Outcome {
     pub result: u16,
     pub status: u8,
@@ -139,25 +135,27 @@ pub struct Outcome {
 pub fn perform(mode: Mode, operation: Operation, status: u8) -> Outcome
     ensures { result ≡ outcome_of (width_of mode) operation status }
 {
+    let setting = Setting { mode, status };
     match operation {
-        Operation::TwoOperand { kind, r, s } => two_operand(mode, kind, r, s, status),
-        Operation::OneOperand { kind, source } => one_operand(mode, kind, source, status),
-        Operation::Bit { kind, n, source } => bit_operation(mode, kind, n, source, status),
-        Operation::Shift { kind, source } => shift(mode, kind, source, status),
-        Operation::Rotate { n, source } => rotate(mode, n, source, status),
-        Operation::Merge { n, u, r, mask } => merge(mode, n, u, r, mask, status),
-        Operation::Compare { n, u, r, mask } => compare(mode, n, u, r, mask, status),
-        Operation::Prioritize { source, mask } => prioritize(mode, source, mask, status),
-        Operation::CrcForward { register, acc } => crc_forward(mode, register, acc, status),
-        Operation::CrcReverse { register, acc } => crc_reverse(mode, register, acc, status),
+        Operation::TwoOperand { kind, r, s } => setting.two_operand(kind, r, s),
+        Operation::OneOperand { kind, source } => setting.one_operand(kind, source),
+        Operation::Bit { kind, n, source } => setting.bit_operation(kind, n, source),
+        Operation::Shift { kind, source } => setting.shift(kind, source),
+        Operation::Rotate { n, source } => setting.rotate(n, source),
+        Operation::Merge { n, u, r, mask } => setting.merge(n, u, r, mask),
+        Operation::Compare { n, u, r, mask } => setting.compare(n, u, r, mask),
+        Operation::Prioritize { source, mask } => setting.prioritize(source, mask),
+        Operation::CrcForward { register, acc } => setting.crc_forward(register, acc),
+        Operation::CrcReverse { register, acc } => setting.crc_reverse(register, acc),
     }
 }
 
 // The word that a destination holds after a result is written to it: its part above the width stays.
+#[tactic(auto, unfolding(crate::specs::Width::write_back))]
 pub fn write_back(mode: Mode, old: u16, res: u16) -> u16
     ensures { result ≡ write_back (width_of mode) old res }
 {
-    let size = size(mode);
+    let size = mode.size();
     let kept = old as u32 / size * size;
-    (kept + low(mode, res as u32) as u32) as u16
+    (kept + mode.low(res as u32) as u32) as u16
 }

@@ -7,8 +7,6 @@ ghost use Rattle.trace.specs.Check.{check_of};
 ghost use Rattle.bench_run.specs.Counting.{Counts};
 ghost use Rattle.bench_trace.specs.Filling.{FillsFrom};
 
-use trace::Filled;
-
 // The check of some bytes.
 #[unsafe(no_mangle)]
 pub extern "C" fn firanbekwo_check(bytes: &[u8]) -> u16
@@ -17,15 +15,12 @@ pub extern "C" fn firanbekwo_check(bytes: &[u8]) -> u16
     trace::check(bytes)
 }
 
-// How many cycle words of a trace are filled in; 0 where it is refused.
+// How many cycle words of a trace are filled in; 0 where it is refused, since C has no Option.
 #[unsafe(no_mangle)]
 pub extern "C" fn firanbekwo_read(trace: &[u8], cycles: &mut [u16]) -> usize
     ensures { FillsFrom trace.now result cycles.old cycles.new }
 {
-    match trace::read(trace, cycles) {
-        Filled::Accepted(words) => words,
-        Filled::Refused(_, _) => 0,
-    }
+    trace::read(trace, cycles).unwrap_or(0)
 }
 
 // The run, as bench_run has it.

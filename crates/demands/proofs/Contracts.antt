@@ -9,6 +9,8 @@ use Rattle.isa.proofs.decode.Reads as decode-contract
 use Rattle.isa.proofs.look_up.Reads as look-up-contract
 use Rattle.isa.proofs.encode.Reads as encode-contract
 use Rattle.isa.proofs.takes_immediate.Reads as takes-immediate-contract
+use Rattle.isa.proofs.mark_for.Reads as mark-for-contract
+use Rattle.isa.proofs.mode_of.Reads as mode-of-contract
 use Rattle.isa.proofs.number_of.Reads as number-of-contract
 use Rattle.isa.proofs.numbered_row.Reads as numbered-row-contract
 use Rattle.plan.proofs.plan_for.Reads as plan-for-contract
@@ -44,7 +46,7 @@ use Rattle.listing.proofs.data_line.Reads as data-line-contract
 use Rattle.listing.proofs.data_of.Reads as data-of-contract
 use Rattle.listpages.proofs.list_trace.Reads as list-trace-contract
 use Rattle.listpages.proofs.read_lines.Reads as read-lines-contract
-use Rattle.demands.specs.Calls.{Starts, TakesText, Performs, WritesBack, Decodes, LooksUp, Encodes, TakesImmediate, NumbersFamily, GivesRow, Plans, NamesImmediate, Cycles, StepsMachine, TakesApart, PutsTogether, MayStart, Runs, RunsFromZero, Checks, ReadsTrace, WritesTrace, Keeps, CycleLines, StateLines, RegisterLines, WordRefusedLines, LastLines, PageLines, WordsLines, FaultLines, RemarkLines, MakesLine, ShowsRun, ShowsWords, TakesPieces, EndsTexts, PrintsWord, ReadsWord, PrintsData, ReadsData, ShowsList, AnswersLines}
+use Rattle.demands.specs.Calls.{Starts, TakesText, Performs, WritesBack, Decodes, LooksUp, Encodes, TakesImmediate, MarksMode, ReadsMark, NumbersFamily, GivesRow, Plans, NamesImmediate, Cycles, StepsMachine, TakesApart, PutsTogether, MayStart, Runs, RunsFromZero, Checks, ReadsTrace, WritesTrace, Keeps, CycleLines, StateLines, RegisterLines, WordRefusedLines, LastLines, PageLines, WordsLines, FaultLines, RemarkLines, MakesLine, ShowsRun, ShowsWords, TakesPieces, EndsTexts, PrintsWord, ReadsWord, PrintsData, ReadsData, ShowsList, AnswersLines}
 use Rattle.choice.specs.Promises.{States, first, second, third, fourth, fifth, sixth}
 
 pub record EveryContract : Type 1 where
@@ -57,6 +59,8 @@ pub record EveryContract : Type 1 where
   pub look_up : States look-up-contract.Asked look-up-contract.Learnt (λ κs a r b. LooksUp (first a) r)
   pub encode : States encode-contract.Asked encode-contract.Learnt (λ κs a r b. Encodes (first a) r)
   pub takes_immediate : States takes-immediate-contract.Asked takes-immediate-contract.Learnt (λ κs a r b. TakesImmediate (first a) r)
+  pub mark_for : States mark-for-contract.Asked mark-for-contract.Learnt (λ κs a r b. MarksMode (first a) r)
+  pub mode_of : States mode-of-contract.Asked mode-of-contract.Learnt (λ κs a r b. ReadsMark (first a) r)
   pub number_of : States number-of-contract.Asked number-of-contract.Learnt (λ κs a r b. NumbersFamily (first a) r)
   pub numbered_row : States numbered-row-contract.Asked numbered-row-contract.Learnt (λ κs a r b. GivesRow (first a) r)
   pub plan_for : States plan-for-contract.Asked plan-for-contract.Learnt (λ κs a r b. Plans (first a) r)
@@ -126,6 +130,8 @@ every_contract = record {
   look_up = λ κs a r b. (refl, refl);
   encode = λ κs a r b. (refl, refl);
   takes_immediate = λ κs a r b. (refl, refl);
+  mark_for = λ κs a r b. (refl, refl);
+  mode_of = λ κs a r b. (refl, refl);
   number_of = λ κs a r b. (refl, refl);
   numbered_row = λ κs a r b. (refl, refl);
   plan_for = λ κs a r b. (refl, refl);

@@ -6,13 +6,13 @@ use Prim.Native.Nat.{ℕ}
 use lib.ListN.{length}
 use Rattle.text.proofs.Laws.{start_unique, take_unique}
 use Rattle.alu.proofs.Unique.{perform_unique, write_back_unique}
-use Rattle.isa.proofs.Laws.{decode_unique, look_up_unique, encode_unique, takes_immediate_unique, number_of_unique, numbered_row_unique}
+use Rattle.isa.proofs.Laws.{decode_unique, look_up_unique, encode_unique, takes_immediate_unique, mark_for_unique, mode_of_unique, number_of_unique, numbered_row_unique}
 use Rattle.plan.proofs.Laws.{plan_for_unique, names_immediate_unique}
 use Rattle.machine.proofs.Laws.{cycle_unique, may_start_unique}
 use Rattle.machine.proofs.Steps.{step_unique, core_of_unique, machine_from_unique}
 use Rattle.run.specs.Runs.{run_of, zero_machine, full_budget}
 use Rattle.run.proofs.Laws.{run_unique}
-use Rattle.demands.specs.Calls.{Filling, Determined, Starts, TakesText, Performs, WritesBack, Decodes, LooksUp, Encodes, TakesImmediate, NumbersFamily, GivesRow, Plans, NamesImmediate, Cycles, StepsMachine, TakesApart, PutsTogether, MayStart, Runs, RunsFromZero, Checks, ReadsTrace, WritesTrace, Keeps, MakesLine, CycleLines, StateLines, RegisterLines, WordRefusedLines, LastLines, PageLines, WordsLines, FaultLines, RemarkLines, FillingBoth, ShowsRun, ShowsWords, TakesPieces, EndsTexts, PrintsWord, ReadsWord, PrintsData, ReadsData, ShowsList, AnswersLines}
+use Rattle.demands.specs.Calls.{Filling, Determined, Starts, TakesText, Performs, WritesBack, Decodes, LooksUp, Encodes, TakesImmediate, MarksMode, ReadsMark, NumbersFamily, GivesRow, Plans, NamesImmediate, Cycles, StepsMachine, TakesApart, PutsTogether, MayStart, Runs, RunsFromZero, Checks, ReadsTrace, WritesTrace, Keeps, MakesLine, CycleLines, StateLines, RegisterLines, WordRefusedLines, LastLines, PageLines, WordsLines, FaultLines, RemarkLines, FillingBoth, ShowsRun, ShowsWords, TakesPieces, EndsTexts, PrintsWord, ReadsWord, PrintsData, ReadsData, ShowsList, AnswersLines}
 use Rattle.trace.proofs.Unique.{check_unique, read_unique, write_unique, kept_unique}
 use Rattle.lines.proofs.Answered.{makes_unique}
 use Rattle.listing.proofs.Single.{line_of_unique, word_of_unique, data_line_unique, data_of_unique}
@@ -46,6 +46,8 @@ pub record EveryCall : Type 0 where
   pub look_up : Determined LooksUp
   pub encode : Determined Encodes
   pub takes_immediate : Determined TakesImmediate
+  pub mark_for : Determined MarksMode
+  pub mode_of : Determined ReadsMark
   pub number_of : Determined NumbersFamily
   pub numbered_row : Determined GivesRow
   pub plan_for : Determined Plans
@@ -92,6 +94,8 @@ every_call = record {
   look_up = look_up_unique;
   encode = encode_unique;
   takes_immediate = takes_immediate_unique;
+  mark_for = mark_for_unique;
+  mode_of = mode_of_unique;
   number_of = number_of_unique;
   numbered_row = numbered_row_unique;
   plan_for = plan_for_unique;

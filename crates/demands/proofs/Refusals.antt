@@ -14,12 +14,14 @@ use lib.Dec.{eqb, ltb}
 use lib.ListN.{length}
 use borrow.Author.Tests.{eqb-true, eqb-false, ne_eqb, ltb-true, ltb-false}
 use Rattle.choice.specs.Checks.{check, refusal}
-use Rattle.choice.specs.Tells.{Tells, refused, tells, Placed, refused_at}
-use Rattle.choice.proofs.Tells.{refused_one, refused_at_one, tells_refused, told_number}
+use Rattle.choice.specs.Tells.{Tells, accepted, refused, tells, Placed, accepted_whole, refused_at}
+use Rattle.choice.proofs.Tells.{refused_one, refused_at_one, accepted_refused, tells_refused, told_number}
 use Rattle.choice.proofs.Picks.{unpicked}
 use Rattle.isa.specs.declared.Named.{Named}
-use Rattle.isa.specs.declared.Decoded.{Decoded}
-use Rattle.isa.specs.declared.Encoded.{Encoded}
+use Rattle.std.specs.Prelude.{Result, Ok, Err}
+use Rattle.refusals.specs.declared.Refusal.{Refusal}
+use Rattle.refusals.specs.declared.Refused.{Refused}
+use Rattle.refusals.specs.Numbers.{number_of as refusal_number}
 use Rattle.isa.specs.Words.{named_by, word_checks, decode_of, decoded_tells, named_checks, word_for, encode_of, encoded_tells}
 use Rattle.isa.proofs.Laws.{decode_unique, encode_unique}
 use Rattle.machine.specs.declared.Machine.{Machine}
@@ -27,11 +29,10 @@ use Rattle.machine.specs.declared.Words.{Words}
 use Rattle.machine.specs.declared.Core.{Core}
 use Rattle.machine.specs.declared.Turn.{Turn}
 use Rattle.machine.specs.declared.Stepped.{Stepped}
-use Rattle.machine.specs.declared.Answer.{Answer}
 use Rattle.machine.specs.declared.Report.{Report}
 use Rattle.machine.specs.Judging.{Judgement, Refuse, checks_of, accepted_as, judgement_of, may_start}
 use Rattle.machine.specs.Settling.{latched}
-use Rattle.machine.specs.Stepping.{machine_from, core_of, report_in}
+use Rattle.machine.specs.Stepping.{machine_from, step_tells}
 use Rattle.machine.specs.Cycles.{Turned, answer_tells, refused_turn, turn_of, cycle_of}
 use Rattle.machine.proofs.Exactly.{cycle_number, started_range}
 use Rattle.machine.proofs.Laws.{refused_unchanged, refused_numbered, cycle_unique}
@@ -43,43 +44,51 @@ use Rattle.run.specs.Runs.{most_cycles, ending_tells}
 use Rattle.run.proofs.Starting.{may_begin}
 use Rattle.run.specs.Following.{machine_at, turn_at, Ends, CycleRefused}
 use Rattle.run.proofs.Laws.{may_go_on}
-use Rattle.demands.specs.Calls.{Filling, Decodes, Encodes, RunInput, whole_number, Runs, Cycles, ReadsTrace, WritesTrace, StepsMachine}
-use Rattle.trace.specs.declared.Filled.{Filled}
+use Rattle.demands.specs.Calls.{Filling, RefusedWith, RefusedAt, number_in, Decodes, Encodes, RunInput, whole_number, Runs, Cycles, ReadsTrace, WritesTrace, StepsMachine}
 use Rattle.trace.specs.Layout.{words_per_record}
 use Rattle.trace.specs.Answers.{filled_tells, leaves, Fills}
 use Rattle.trace.specs.Writing.{write_checks}
-use Rattle.trace.proofs.Unique.{filled_one}
 use Rattle.trace.specs.Refusing.{Refuses}
 use Rattle.trace.proofs.Exactly.{read_refuses, write_refuses}
 use Rattle.demands.proofs.Following.{follows, gives_back}
 
--- reader and writer: an answer is a refusal exactly when the definition's is, and lent output is then as it was
-module _ (answer : Placed ℕ) (made before : List ℕ) (r : Filled) (after : List ℕ) (f : Fills answer made r before after) (k i : ℕ) where
-  refusal_told : (r ≡ Filled.Refused k i) ↔ (answer ≡ refused_at k i)
-  refusal_told = ((λ e. sym f.told ∙ ap filled_tells e), (λ e. filled_one r (Filled.Refused k i) (f.told ∙ e)))
+-- an answer is a refusal with a number exactly when that is what it tells
+refused_told : {A : Type 0} (told : Result A Refusal → Tells A) → ((x : A) → told (Ok x) ≡ accepted x)
+    → ((e : Refusal) → told (Err e) ≡ refused (refusal_number e)) → (r : Result A Refusal) (k : ℕ) → RefusedWith r k ↔ (told r ≡ refused k)
+refused_told told whole part (Ok x) k = ((λ e. absurd e), (λ e. absurd (accepted_refused x k (sym (whole x) ∙ e))))
+refused_told told whole part (Err e) k = ((λ h. part e ∙ ap refused h), (λ h. refused_one (refusal_number e) k (sym (part e) ∙ h)))
 
-  untouched : r ≡ Filled.Refused k i → after ≡ before
+-- reader and writer: an answer is a refusal exactly when the definition's is, and lent output is then as it was
+filled_refused : (r : Result ℕ Refused) (k i : ℕ) → RefusedAt r k i ↔ (filled_tells r ≡ refused_at k i)
+filled_refused (Ok n) k i = ((λ e. absurd e), (λ e. absurd (accepted_refused n k (ap (λ (p : Placed ℕ). p.told) e))))
+filled_refused (Err e) k i = ((λ h. ap₂ refused_at h.0 h.1), (λ h. refused_at_one (refusal_number e.refusal) k e.index i h))
+
+module _ (answer : Placed ℕ) (made before : List ℕ) (r : Result ℕ Refused) (after : List ℕ) (f : Fills answer made r before after) (k i : ℕ) where
+  refusal_told : RefusedAt r k i ↔ (answer ≡ refused_at k i)
+  refusal_told = ((λ e. sym f.told ∙ (filled_refused r k i).0 e), (λ e. (filled_refused r k i).1 (f.told ∙ e)))
+
+  untouched : RefusedAt r k i → after ≡ before
   untouched e = f.written ∙ ap (λ (a : Placed ℕ). leaves a made before) (refusal_told.0 e)
 
 both_ways : {A B C : Type 0} → A ↔ B → B ↔ C → A ↔ C
 both_ways f g = ((λ a. g.0 (f.0 a)), (λ c. f.1 (g.1 c)))
 
 -- `read`: 11, 2, 12 to 14, 2, 3
-module _ (i : List ℕ × List ℕ) (o : Filling Filled) (p : ReadsTrace i o) (k j : ℕ) (nonzero : k ≡ 0 → ⊥) where
-  pub read_refused_exactly : (o.answer ≡ Filled.Refused k j) ↔ Refuses words_per_record i.0 (length i.1) k j
+module _ (i : List ℕ × List ℕ) (o : Filling (Result ℕ Refused)) (p : ReadsTrace i o) (k j : ℕ) (nonzero : k ≡ 0 → ⊥) where
+  pub read_refused_exactly : RefusedAt o.answer k j ↔ Refuses words_per_record i.0 (length i.1) k j
   read_refused_exactly =
       both_ways (refusal_told _ _ i.1 o.answer o.after p k j) (read_refuses words_per_record i.0 (length i.1) k j nonzero)
 
-  pub read_refused_leaves : o.answer ≡ Filled.Refused k j → o.after ≡ i.1
+  pub read_refused_leaves : RefusedAt o.answer k j → o.after ≡ i.1
   read_refused_leaves e = untouched _ _ i.1 o.answer o.after p k j e
 
 -- `write`: 1, 2, 3
-module _ (i : List ℕ × List ℕ) (o : Filling Filled) (p : WritesTrace i o) (k j : ℕ) (nonzero : k ≡ 0 → ⊥) where
-  pub write_refused_exactly : (o.answer ≡ Filled.Refused k j) ↔ ((refusal (write_checks words_per_record (length i.0) (length i.1)) ≡ k) × (j ≡ 0))
+module _ (i : List ℕ × List ℕ) (o : Filling (Result ℕ Refused)) (p : WritesTrace i o) (k j : ℕ) (nonzero : k ≡ 0 → ⊥) where
+  pub write_refused_exactly : RefusedAt o.answer k j ↔ ((refusal (write_checks words_per_record (length i.0) (length i.1)) ≡ k) × (j ≡ 0))
   write_refused_exactly =
       both_ways (refusal_told _ _ i.1 o.answer o.after p k j) (write_refuses words_per_record (length i.0) (length i.1) k j nonzero)
 
-  pub write_refused_leaves : o.answer ≡ Filled.Refused k j → o.after ≡ i.1
+  pub write_refused_leaves : RefusedAt o.answer k j → o.after ≡ i.1
   write_refused_leaves e = untouched _ _ i.1 o.answer o.after p k j e
 
 -- the checks of a whole run give no number over 4
@@ -180,9 +189,12 @@ module _ (i : RunInput) (o : Filling Ran) (p : Runs i o) where
   started_never_four z j e = let four = (run_refused_exactly 4 j (omega arith) (omega arith)).0 e in omega (arith, z, four.0)
 
 -- a refused cycle, alone, gives the machine back
-pub cycle_refused_leaves : (m : Machine) (c : Words) (t : Turn) → Cycles (m, c) t → (k : ℕ) → t.answer ≡ Answer.Refused k → t.machine ≡ m
+cycle_told : (r : Result Report Refusal) (k : ℕ) → RefusedWith r k ↔ (answer_tells r ≡ refused k)
+cycle_told = refused_told answer_tells (λ x. refl) (λ e. refl)
+
+pub cycle_refused_leaves : (m : Machine) (c : Words) (t : Turn) → Cycles (m, c) t → (k : ℕ) → RefusedWith t.answer k → t.machine ≡ m
 cycle_refused_leaves m c t p k e =
-    let told : (cycle_of m c).answer ≡ refused k = sym (ap (λ (x : Turned). x.answer) p) ∙ ap answer_tells e in
+    let told : (cycle_of m c).answer ≡ refused k = sym (ap (λ (x : Turned). x.answer) p) ∙ (cycle_told t.answer k).0 e in
     ap (λ (x : Turned). x.machine) p ∙ refused_unchanged m c k told
 
 -- checks that give a number refuse
@@ -209,39 +221,52 @@ named_refused n k nonzero e = told_refusal (refusal (named_checks n)) k (word_fo
 
 -- one cycle: its answer is a refusal exactly when its checks give the number
 pub one_cycle_refused_exactly : (m : Machine) (c : Words) (t : Turn) → Cycles (m, c) t → (k : ℕ) → (k ≡ 0 → ⊥)
-    → (t.answer ≡ Answer.Refused k) ↔ (refusal (checks_of m.registers.waiting c) ≡ k)
+    → RefusedWith t.answer k ↔ (refusal (checks_of m.registers.waiting c) ≡ k)
 one_cycle_refused_exactly m c t p k nonzero = (to, back)
   where
-    to : t.answer ≡ Answer.Refused k → refusal (checks_of m.registers.waiting c) ≡ k
-    to e = sym (cycle_number m c) ∙ sym (ap (λ (x : Turned). x.answer.number) p) ∙ ap (λ (a : Answer). (answer_tells a).number) e
+    to : RefusedWith t.answer k → refusal (checks_of m.registers.waiting c) ≡ k
+    to e = sym (cycle_number m c) ∙ sym (ap (λ (x : Turned). x.answer.number) p) ∙ ap (λ (a : Tells Report). a.number) ((cycle_told t.answer k).0 e)
 
-    back : refusal (checks_of m.registers.waiting c) ≡ k → t.answer ≡ Answer.Refused k
-    back e = ap (λ (x : Turn). x.answer) (cycle_unique m c t (record { machine = m; answer = Answer.Refused k }) p (sym (refused_by m c k nonzero e)))
+    back : refusal (checks_of m.registers.waiting c) ≡ k → RefusedWith t.answer k
+    back e = (cycle_told t.answer k).1 (ap (λ (x : Turned). x.answer) (p ∙ refused_by m c k nonzero e))
 
 -- one step: its number is the one that its checks give, and a refused step leaves RAM and the other registers
-module _ (ram : List ℕ) (core : Core) (c : Words) (o : Filling Stepped) (p : StepsMachine (ram, core, c) o) where
-  pub step_refused_exactly : o.answer.refusal ≡ refusal (checks_of core.waiting c)
-  step_refused_exactly =
-      sym (told_number o.answer.refusal (report_in o.answer))
-      ∙ ap (λ (x : Turned). x.answer.number) p.turn ∙ cycle_number (machine_from ram core) c
+step_number : (core : Core) (ram : List ℕ) (r : Result Stepped Refusal) → (step_tells core ram r).answer.number ≡ number_in r
+step_number core ram (Ok s) = refl
+step_number core ram (Err e) = refl
 
-  pub step_refused_leaves : (o.answer.refusal ≡ 0 → ⊥) → (o.after ≡ ram) × (o.answer.core ≡ core)
+step_told : (core : Core) (ram : List ℕ) (r : Result Stepped Refusal) → (number_in r ≡ 0 → ⊥) → (step_tells core ram r).answer ≡ refused (number_in r)
+step_told core ram (Ok s) n = absurd (n refl)
+step_told core ram (Err e) n = refl
+
+module _ (ram : List ℕ) (core : Core) (c : Words) (o : Filling (Result Stepped Refusal)) (p : StepsMachine (ram, core, c) o) where
+  pub step_refused_exactly : number_in o.answer ≡ refusal (checks_of core.waiting c)
+  step_refused_exactly =
+      sym (step_number core o.after o.answer) ∙ ap (λ (x : Turned). x.answer.number) p.turn ∙ cycle_number (machine_from ram core) c
+
+  pub step_refused_leaves : (number_in o.answer ≡ 0 → ⊥) → (o.after ≡ ram) × ((step_tells core o.after o.answer).machine ≡ machine_from ram core)
   step_refused_leaves n =
-      let told : (cycle_of (machine_from ram core) c).answer ≡ refused o.answer.refusal =
-      sym (ap (λ (x : Turned). x.answer) p.turn) ∙ tells_refused o.answer.refusal (report_in o.answer) n in
-      let same : machine_from o.after o.answer.core ≡ machine_from ram core =
-      ap (λ (x : Turned). x.machine) p.turn ∙ refused_unchanged (machine_from ram core) c o.answer.refusal told in
-      (ap (λ (m : Machine). m.registers.ram) same, ap (λ (m : Machine). core_of m.registers) same)
+      let told : (cycle_of (machine_from ram core) c).answer ≡ refused (number_in o.answer) =
+      sym (ap (λ (x : Turned). x.answer) p.turn) ∙ step_told core o.after o.answer n in
+      let same : (step_tells core o.after o.answer).machine ≡ machine_from ram core =
+      ap (λ (x : Turned). x.machine) p.turn ∙ refused_unchanged (machine_from ram core) c (number_in o.answer) told in
+      (step_ram o.after o.answer same, same)
+    where
+      step_ram : (after : List ℕ) (r : Result Stepped Refusal) → (step_tells core after r).machine ≡ machine_from ram core → after ≡ ram
+      step_ram after (Ok s) e = ap (λ (m : Machine). m.registers.ram) e
+      step_ram after (Err k) e = ap (λ (m : Machine). m.registers.ram) e
 
 -- words and named instructions: 7, 8 or 9 exactly when decoding or encoding has that number
-pub decode_refused_exactly : (w : ℕ) (r : Decoded) → Decodes w r → (k : ℕ) → (k ≡ 0 → ⊥) → (r ≡ Decoded.Refused k) ↔ ((decode_of w).number ≡ k)
-decode_refused_exactly w r p k nonzero = (
-  (λ e. sym (ap (λ (t : Tells Named). t.number) p) ∙ ap (λ (d : Decoded). (decoded_tells d).number) e),
-  (λ e. decode_unique w r (Decoded.Refused k) p (sym (word_refused w k nonzero e))),
-)
+pub decode_refused_exactly : (w : ℕ) (r : Result Named Refusal) → Decodes w r → (k : ℕ) → (k ≡ 0 → ⊥) → RefusedWith r k ↔ ((decode_of w).number ≡ k)
+decode_refused_exactly w r p k nonzero =
+    let told = refused_told decoded_tells (λ x. refl) (λ e. refl) r k in (
+      (λ e. ap (λ (t : Tells Named). t.number) (sym p ∙ told.0 e)),
+      (λ e. told.1 (p ∙ word_refused w k nonzero e)),
+    )
 
-pub encode_refused_exactly : (n : Named) (r : Encoded) → Encodes n r → (k : ℕ) → (k ≡ 0 → ⊥) → (r ≡ Encoded.Refused k) ↔ ((encode_of n).number ≡ k)
-encode_refused_exactly n r p k nonzero = (
-  (λ e. sym (ap (λ (t : Tells ℕ). t.number) p) ∙ ap (λ (d : Encoded). (encoded_tells d).number) e),
-  (λ e. encode_unique n r (Encoded.Refused k) p (sym (named_refused n k nonzero e))),
-)
+pub encode_refused_exactly : (n : Named) (r : Result ℕ Refusal) → Encodes n r → (k : ℕ) → (k ≡ 0 → ⊥) → RefusedWith r k ↔ ((encode_of n).number ≡ k)
+encode_refused_exactly n r p k nonzero =
+    let told = refused_told encoded_tells (λ x. refl) (λ e. refl) r k in (
+      (λ e. ap (λ (t : Tells ℕ). t.number) (sym p ∙ told.0 e)),
+      (λ e. told.1 (p ∙ named_refused n k nonzero e)),
+    )

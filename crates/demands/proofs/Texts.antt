@@ -8,11 +8,11 @@ use native.Mathlib.Omega.{arith}
 use lib.ListN.{length, take, drop}
 use lib.Seq.{take_at}
 use Rattle.choice.specs.Tells.{accepted_whole}
-use Rattle.text.specs.declared.Stop.{Stop}
+use Rattle.std.specs.Prelude.{Result, Ok, None}
+use Rattle.refusals.specs.declared.Refused.{Refused}
 use Rattle.text.specs.declared.Taken.{Taken}
 use Rattle.text.specs.Lines.{words_per_line}
 use Rattle.text.specs.Taking.{start_of, Took, take_from}
-use Rattle.trace.specs.declared.Filled.{Filled}
 use Rattle.trace.specs.Answers.{filled_tells}
 use Rattle.trace.specs.Layout.{block_bytes, records_at, part, words_of, Bytes}
 use Rattle.trace.specs.Blocks.{count_of, records_end, record_words}
@@ -48,7 +48,7 @@ blocks_small (suc m) t h =
     (record_small (take block_bytes t) (bytes_take block_bytes t h))
     (blocks_small m (drop block_bytes t) (bytes_drop block_bytes t h))
 
-module _ (t lent : List ℕ) (n : ℕ) (o : Filling Filled) (bytes : Bytes t) (reads : ReadsTrace (t, lent) o) (e : o.answer ≡ Filled.Accepted n) where
+module _ (t lent : List ℕ) (n : ℕ) (o : Filling (Result ℕ Refused)) (bytes : Bytes t) (reads : ReadsTrace (t, lent) o) (e : o.answer ≡ Ok n) where
   -- the words that were read: as many as the answer says, and whole lines of them
   abbrev cycles : List ℕ
   cycles = take n o.after
@@ -89,8 +89,8 @@ module _ (t lent : List ℕ) (n : ℕ) (o : Filling Filled) (bytes : Bytes t) (r
         ∙ take_at cycles (drop (length cycles) words) (length cycles) refl
 
     -- and written: the bytes of the trace
-    pub unpacked_and_packed : (trace : List ℕ) (q : Filling Filled) → WritesTrace (take p.answer.reader.found p.after, trace) q → length t ≤ length trace
-        → (p.answer.stop ≡ Stop.TextEnd) × (p.answer.reader.faults ≡ 0) × (q.answer ≡ Filled.Accepted (length t)) × (q.after ≡ t ++ drop (length t) trace)
+    pub unpacked_and_packed : (trace : List ℕ) (q : Filling (Result ℕ Refused)) → WritesTrace (take p.answer.reader.found p.after, trace) q → length t ≤ length trace
+        → (p.answer.fault ≡ None) × (p.answer.reader.faults ≡ 0) × (q.answer ≡ Ok (length t)) × (q.after ≡ t ++ drop (length t) trace)
     unpacked_and_packed trace q w h =
         let again = trace_there_and_back t lent n o bytes reads e trace q (subst (λ (l : List ℕ). WritesTrace (l, trace) q) same_words w) h in
-        (ap (λ (k : Taken). k.stop) answered, ap (λ (k : Taken). k.reader.faults) answered, again.0, again.1)
+        (ap (λ (k : Taken). k.fault) answered, ap (λ (k : Taken). k.reader.faults) answered, again.0, again.1)

@@ -1,6 +1,9 @@
 -- The statements of the public calls, each over what goes in and what comes out: the answer, and lent output after the call.
 use Prim.{Unit}
-use Rattle.std.specs.Prelude.{◌≡◌, Bool, List, [], ℕ, length, get_or}
+use Rattle.std.specs.Prelude.{◌≡◌, Bool, List, [], ℕ, length, get_or, Option, Result, Ok, Err}
+use Rattle.refusals.specs.declared.Refusal.{Refusal}
+use Rattle.refusals.specs.declared.Refused.{Refused}
+use Rattle.refusals.specs.Numbers.{number_of as refusal_number}
 use Rattle.text.specs.declared.Reader.{Reader}
 use Rattle.text.specs.declared.Fault.{Fault}
 use Rattle.text.specs.declared.Taken.{Taken}
@@ -12,10 +15,9 @@ use Rattle.alu.specs.Width.{width_of, write_back}
 use Rattle.alu.specs.Operations.{outcome_of}
 use Rattle.isa.specs.declared.Named.{Named}
 use Rattle.isa.specs.declared.Lookup.{Lookup}
-use Rattle.isa.specs.declared.Decoded.{Decoded}
-use Rattle.isa.specs.declared.Encoded.{Encoded}
 use Rattle.isa.specs.declared.Family.{Family}
 use Rattle.isa.specs.declared.Row.{Row}
+use Rattle.isa.specs.Fields.{mark_for, mode_of}
 use Rattle.isa.specs.Table.{row_at, number_of}
 use Rattle.isa.specs.Words.{decoded_tells, decode_of, lookup_of, encoded_tells, encode_of, takes_immediate}
 use Rattle.plan.specs.declared.Plan.{Plan}
@@ -35,13 +37,11 @@ use Rattle.machine.specs.Stepping.{core_of, machine_from, Steps}
 use Rattle.run.specs.declared.Ending.{Ending}
 use Rattle.run.specs.declared.Ran.{Ran}
 use Rattle.run.specs.Runs.{start_refusal, run_of, zero_machine, full_budget, Gives}
-use Rattle.trace.specs.declared.Filled.{Filled}
 use Rattle.trace.specs.Check.{check_of}
 use Rattle.trace.specs.Layout.{words_per_record}
 use Rattle.trace.specs.Limits.{kept_length}
 use Rattle.trace.specs.Reading.{Reads}
 use Rattle.trace.specs.Writing.{Writes}
-use Rattle.lines.specs.declared.Line.{Line}
 use Rattle.lines.specs.Lines.{cycle_line, state_line, register_line, word_refused_line, last_line}
 use Rattle.lines.specs.Answers.{Makes}
 use Rattle.lines.specs.Pages.{page_of}
@@ -55,8 +55,6 @@ use Rattle.pages.specs.Writing.{Writes as WritesBoth}
 use Rattle.pages.specs.Running.{page_text, page_said}
 use Rattle.pages.specs.Unpacking.{unpacked_text, unpacked_said}
 use Rattle.pages.specs.Packing.{TakesPiece, EndsText}
-use Rattle.listing.specs.declared.Printed.{Printed}
-use Rattle.listing.specs.declared.Read.{Read}
 use Rattle.listing.specs.Lines.{word_of}
 use Rattle.listing.specs.Data.{data_of}
 use Rattle.listing.specs.Answers.{printed_tells, read_tells, outcome, print_into, data_into}
@@ -74,6 +72,20 @@ pub record Filling (Answer : Type 0) : Type 0 where
 abbrev pub Determined : {Input Outcome : Type 0} → (Input → Outcome → Type 0) → Type 0
 Determined {Input = Input} {Outcome = Outcome} Promises = (i : Input) (x y : Outcome) → Promises i x → Promises i y → x ≡ y
 
+-- for laws: an answer is a refusal with a number of the documents, and, where a place is told, with its index
+abbrev pub RefusedWith : {A : Type 0} → Result A Refusal → ℕ → Type 0
+RefusedWith (Ok x) k = ⊥
+RefusedWith (Err e) k = refusal_number e ≡ k
+
+abbrev pub RefusedAt : {A : Type 0} → Result A Refused → ℕ → ℕ → Type 0
+RefusedAt (Ok x) k i = ⊥
+RefusedAt (Err e) k i = (refusal_number e.refusal ≡ k) × (e.index ≡ i)
+
+-- for laws: the number of an answer's refusal, 0 where it has none
+abbrev pub number_in : {A : Type 0} → Result A Refusal → ℕ
+number_in (Ok x) = 0
+number_in (Err e) = refusal_number e
+
 -- text
 abbrev pub Starts : Unit {0} → Reader → Type 0
 Starts i r = r ≡ start_of
@@ -90,17 +102,23 @@ abbrev pub WritesBack : Mode × ℕ × ℕ → ℕ → Type 0
 WritesBack i r = r ≡ write_back (width_of i.0) i.1 i.2
 
 -- isa
-abbrev pub Decodes : ℕ → Decoded → Type 0
+abbrev pub Decodes : ℕ → Result Named Refusal → Type 0
 Decodes w r = decoded_tells r ≡ decode_of w
 
 abbrev pub LooksUp : ℕ → Lookup → Type 0
 LooksUp w r = r ≡ lookup_of w
 
-abbrev pub Encodes : Named → Encoded → Type 0
+abbrev pub Encodes : Named → Result ℕ Refusal → Type 0
 Encodes n r = encoded_tells r ≡ encode_of n
 
 abbrev pub TakesImmediate : ℕ → Bool → Type 0
 TakesImmediate w r = r ≡ takes_immediate w
+
+abbrev pub MarksMode : Mode → ℕ → Type 0
+MarksMode d r = r ≡ mark_for d
+
+abbrev pub ReadsMark : ℕ → Mode → Type 0
+ReadsMark k r = r ≡ mode_of k
 
 abbrev pub NumbersFamily : Family → ℕ → Type 0
 NumbersFamily f r = r ≡ number_of f
@@ -120,7 +138,7 @@ abbrev pub Cycles : Machine × Words → Turn → Type 0
 Cycles i r = turn_tells r ≡ cycle_of i.0 i.1
 
 -- RAM before the step, the other registers and the words; RAM after it is the lent output
-abbrev pub StepsMachine : List ℕ × Core × Words → Filling Stepped → Type 0
+abbrev pub StepsMachine : List ℕ × Core × Words → Filling (Result Stepped Refusal) → Type 0
 StepsMachine i o = Steps i.0 i.1 i.2 o.answer o.after
 
 abbrev pub TakesApart : Registers → Core → Type 0
@@ -153,17 +171,17 @@ RunsFromZero i o = Runs (record { machine = zero_machine; words = i.0; budget = 
 abbrev pub Checks : List ℕ → ℕ → Type 0
 Checks bytes r = r ≡ check_of bytes
 
-abbrev pub ReadsTrace : List ℕ × List ℕ → Filling Filled → Type 0
+abbrev pub ReadsTrace : List ℕ × List ℕ → Filling (Result ℕ Refused) → Type 0
 ReadsTrace i o = Reads i.0 o.answer i.1 o.after
 
-abbrev pub WritesTrace : List ℕ × List ℕ → Filling Filled → Type 0
+abbrev pub WritesTrace : List ℕ × List ℕ → Filling (Result ℕ Refused) → Type 0
 WritesTrace i o = Writes i.0 o.answer i.1 o.after
 
 abbrev pub Keeps : ℕ → ℕ → Type 0
 Keeps n r = r ≡ kept_length words_per_record n
 
 -- lines: the text, and the lent slice before the call
-abbrev pub MakesLine : List ℕ × List ℕ → Filling Line → Type 0
+abbrev pub MakesLine : List ℕ × List ℕ → Filling (Option ℕ) → Type 0
 MakesLine i o = Makes i.0 o.answer i.1 o.after
 
 pub record CycleShown : Type 0 where
@@ -173,31 +191,31 @@ pub record CycleShown : Type 0 where
   pub ct : ℕ
   pub t : ℕ
 
-abbrev pub CycleLines : CycleShown × List ℕ → Filling Line → Type 0
+abbrev pub CycleLines : CycleShown × List ℕ → Filling (Option ℕ) → Type 0
 CycleLines i o = MakesLine (cycle_line i.0.number i.0.y i.0.mask i.0.ct i.0.t, i.1) o
 
-abbrev pub StateLines : Registers × List ℕ → Filling Line → Type 0
+abbrev pub StateLines : Registers × List ℕ → Filling (Option ℕ) → Type 0
 StateLines i o = MakesLine (state_line i.0, i.1) o
 
-abbrev pub RegisterLines : ℕ × ℕ × List ℕ → Filling Line → Type 0
+abbrev pub RegisterLines : ℕ × ℕ × List ℕ → Filling (Option ℕ) → Type 0
 RegisterLines i o = MakesLine (register_line i.0 i.1, i.2) o
 
-abbrev pub LastLines : Ending × ℕ × List ℕ → Filling Line → Type 0
+abbrev pub LastLines : Ending × ℕ × List ℕ → Filling (Option ℕ) → Type 0
 LastLines i o = MakesLine (last_line i.0 i.1, i.2) o
 
-abbrev pub WordRefusedLines : ℕ × List ℕ → Filling Line → Type 0
+abbrev pub WordRefusedLines : ℕ × List ℕ → Filling (Option ℕ) → Type 0
 WordRefusedLines i o = MakesLine (word_refused_line i.0, i.1) o
 
-abbrev pub PageLines : Ran × List ℕ × ℕ × List ℕ → Filling Line → Type 0
+abbrev pub PageLines : Ran × List ℕ × ℕ × List ℕ → Filling (Option ℕ) → Type 0
 PageLines i o = MakesLine (get_or (page_of i.0 i.1) i.2 [], i.3) o
 
-abbrev pub WordsLines : List ℕ × ℕ × List ℕ → Filling Line → Type 0
+abbrev pub WordsLines : List ℕ × ℕ × List ℕ → Filling (Option ℕ) → Type 0
 WordsLines i o = MakesLine (words_line i.0 i.1, i.2) o
 
-abbrev pub FaultLines : Fault × List ℕ → Filling Line → Type 0
+abbrev pub FaultLines : Fault × List ℕ → Filling (Option ℕ) → Type 0
 FaultLines i o = MakesLine (fault_line i.0, i.1) o
 
-abbrev pub RemarkLines : Program × Remark × List ℕ → Filling Line → Type 0
+abbrev pub RemarkLines : Program × Remark × List ℕ → Filling (Option ℕ) → Type 0
 RemarkLines i o = MakesLine (remark_line i.0 i.1, i.2) o
 
 -- pages: an answer, and both lent slices after the call: for standard output and for standard error
@@ -222,16 +240,16 @@ abbrev pub EndsTexts : Reader × List ℕ × List ℕ × List ℕ → FillingBot
 EndsTexts i o = EndsText i.0 o.answer.answer i.1 i.2 i.3 o.answer.after o.out o.errors
 
 -- listing: a word or data, and the lent bytes before the call; a line
-abbrev pub PrintsWord : ℕ × List ℕ → Filling Printed → Type 0
+abbrev pub PrintsWord : ℕ × List ℕ → Filling (Result ℕ Refusal) → Type 0
 PrintsWord i o = outcome (printed_tells o.answer) o.after ≡ print_into i.0 i.1
 
-abbrev pub ReadsWord : List ℕ → Read → Type 0
+abbrev pub ReadsWord : List ℕ → Result ℕ Refused → Type 0
 ReadsWord line r = read_tells r ≡ word_of line
 
-abbrev pub PrintsData : ℕ × List ℕ → Filling Printed → Type 0
+abbrev pub PrintsData : ℕ × List ℕ → Filling (Result ℕ Refusal) → Type 0
 PrintsData i o = outcome (printed_tells o.answer) o.after ≡ data_into i.0 i.1
 
-abbrev pub ReadsData : List ℕ → Read → Type 0
+abbrev pub ReadsData : List ℕ → Result ℕ Refused → Type 0
 ReadsData line r = read_tells r ≡ data_of line
 
 -- listpages: a trace, and both lent slices before the call; a reader and bytes, and the lent slice before the call

@@ -8,10 +8,10 @@ ghost use Rattle.std.specs.Prelude.{◌<◌};
 use files::Files;
 use lines::Program;
 use std::fs::File;
-use std::io;
 use std::io::{Error, ErrorKind, Read, Write};
 use std::rt::{Env, Files as FileSystem};
-use streams::{argument, has_argument, open, print};
+use std::{io, str};
+use streams::{argument, has_argument, open};
 
 // The most bytes of an argument, and the most arguments: more are passed over.
 const NAME_BYTES: usize = 64;
@@ -38,99 +38,76 @@ impl Write for Unopened {
     }
 }
 
-fn print_argument(rt: &(impl Env + Print), place: usize) {
-    let mut name = [0u8; NAME_BYTES];
-    let n = argument(rt, place, &mut name);
-    print(rt, &name[0..n]);
+// An argument, or no text where there is none.
+fn text_of<'a>(env: &impl Env, place: usize, bytes: &'a mut [u8]) -> &'a str {
+    let n = argument(env, place, bytes).unwrap_or(0);
+    str::from_utf8(&bytes[..n]).unwrap_or("")
 }
 
-fn print_title(rt: &(impl Env + Print), first: usize)
-    requires { first < 1000 }
-{
-    print(rt, b"== ");
-    print_argument(rt, first);
-    print(rt, b" ");
-    print_argument(rt, first + 1);
-    print(rt, b" ");
-    print_argument(rt, first + 2);
-    print(rt, b"\n");
-}
-
-// A letter of an argument, by its place from 0, and 0 where the argument has none there.
-fn letter(env: &impl Env, argument_place: usize, place: usize) -> u8 {
-    let mut name = [0u8; NAME_BYTES];
-    let n = argument(env, argument_place, &mut name);
-    if place < n { name[place] } else { 0 }
-}
-
-// Runs a program by the third letter of its name.
-fn run_program<R: Read, W: Write, E: Write>(third: u8, files: &mut Files<R, W, E>) {
-    match third {
-        b'n' => printing::run_trace(files),
-        b'c' => printing::pack_text(files),
-        b's' => listprinting::list_trace(files),
-        b'a' => listprinting::read_list(files),
-        _ => printing::unpack_trace(files),
-    }
-}
-
-fn open_input<R: Env + FileSystem>(rt: &R, place: usize) -> Option<R::File> {
-    let mut name = [0u8; NAME_BYTES];
-    let n = argument(rt, place, &mut name);
-    open(rt, &name[0..n])
-}
-
-// Runs a program on an input. Where its output is blocked, that is the input's own file, which is open for reading alone.
-fn run_on<R: Read + Drop, W: Write + Drop>(
-    rt: &impl Print,
-    third: u8,
-    blocked: bool,
+// Runs a program over an input and two outputs.
+fn run_program<R: Read + Drop, W: Write + Drop, E: Write + Drop>(
+    name: &str,
     input: R,
-    own: W,
+    output: W,
+    errors: E,
 ) {
-    let errors = io::writer(rt);
-    if blocked {
-        let mut files = Files {
-            input,
-            output: own,
-            errors,
-        };
-        run_program(third, &mut files);
-    } else {
-        let mut files = Files {
-            input,
-            output: io::writer(rt),
-            errors,
-        };
-        run_program(third, &mut files);
+    let mut files = Files {
+        input,
+        output,
+        errors,
+    };
+    match name {
+        "runtrace" => printing::run_trace(&mut files),
+        "packtrace" => printing::pack_text(&mut files),
+        "listtrace" => listprinting::list_trace(&mut files),
+        "readlist" => listprinting::read_list(&mut files),
+        _ => printing::unpack_trace(&mut files),
     }
 }
 
-// Runs a case.
-fn run_case<R: Env + FileSystem<File = File> + Print>(rt: &R, first: usize)
+// Runs a case. Where its output is blocked, that is the input's own file, which is open for reading alone.
+fn run_case<R: Env + FileSystem<File = File> + Print>(rt: &R, first: usize) -> io::Result<()>
     requires { first < 1000 }
 {
-    print_title(rt, first);
-    let third = letter(rt, first, 2);
-    let blocked = letter(rt, first + 1, 0) == b'b';
-    match open_input(rt, first + 2) {
-        Some(file) => run_on(rt, third, blocked, &file, &file),
-        None => run_on(rt, third, blocked, Unopened, Unopened),
+    let mut program = [0; NAME_BYTES];
+    let mut way = [0; NAME_BYTES];
+    let mut name = [0; NAME_BYTES];
+    let program = text_of(rt, first, &mut program);
+    let way = text_of(rt, first + 1, &mut way);
+    let name = text_of(rt, first + 2, &mut name);
+    println!(rt; "== {program} {way} {name}")?;
+    let errors = io::writer(rt);
+    match (open(rt, name.as_bytes()), way) {
+        (Some(file), "blocked") => run_program(program, &file, &file, errors),
+        (Some(file), _) => run_program(program, &file, io::writer(rt), errors),
+        (None, "blocked") => run_program(program, Unopened, Unopened, errors),
+        (None, _) => run_program(program, Unopened, io::writer(rt), errors),
     }
+    Ok(())
 }
 
-fn main(rt: HostRuntime) {
+fn print_edges(rt: &HostRuntime) -> io::Result<()> {
     let mut output = rt.stdout();
-    print(&rt, b"== usage\n");
-    files::print_usage(Program::RunTrace, &mut output);
-    files::print_usage(Program::PackTrace, &mut output);
-    files::print_usage(Program::UnpackTrace, &mut output);
-    files::print_usage(Program::ListTrace, &mut output);
-    files::print_usage(Program::ReadList, &mut output);
-    for first in (1..MOST_ARGUMENTS).step_by(3) {
-        if !has_argument(&rt, first + 2) {
-            return;
-        }
-        run_case(&rt, first);
+    println!(rt; "== usage")?;
+    for program in [
+        Program::RunTrace,
+        Program::PackTrace,
+        Program::UnpackTrace,
+        Program::ListTrace,
+        Program::ReadList,
+    ] {
+        files::print_usage(program, &mut output);
     }
+    for first in (1..MOST_ARGUMENTS).step_by(3) {
+        if !has_argument(rt, first + 2) {
+            break;
+        }
+        run_case(rt, first)?;
+    }
+    Ok(())
+}
+
+// Where something cannot be printed there is nobody to tell.
+fn main(rt: HostRuntime) {
+    let _ = print_edges(&rt);
 }

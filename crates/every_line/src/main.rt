@@ -2,10 +2,9 @@
 // each kind there were; then the same for all data, and what some single lines give.
 #![tactic(auto)]
 
-ghost use Rattle.std.specs.Prelude.{◌≡◌, ◌≤◌, length};
-
-use listing::{Printed, Read};
-use streams::print;
+use refusals::{Refusal, Refused};
+use std::fmt::{Display, Formatter};
+use std::{fmt, io};
 
 // Room for a line that has each blank twice and one at both ends.
 const SPACED_BYTES: usize = 64;
@@ -16,334 +15,210 @@ const MODE: u16 = 0x8000;
 // The bit that field A has for the name PRZ, 10, and has not for PRA, 8.
 const ZERO_NOT_ACC: u16 = 0x0400;
 
-#[derive(Clone, Copy)]
-struct Tally {
-    printed: u32,
-    word_seven: u32,
-    word_eight: u32,
-    word_nine: u32,
-    back: u32,
-    spaced_back: u32,
-    line_seven: u32,
-    line_eight: u32,
-    line_nine: u32,
-    turned: u32,
-    astray: u32,
-    columns: u32,
-    data_back: u32,
-}
+// How often something came. That is at most 65,536 times, and never wraps.
+#[derive(Clone, Copy, Default)]
+struct Count(u32);
 
-// One more. A count is at most 65,536 and never wraps.
-fn more(n: u32) -> u32 {
-    n.wrapping_add(1)
-}
-
-fn print_number(rt: &impl Print, n: u64) {
-    print(rt, b" ");
-    streams::print_number(rt, n);
-}
-
-fn print_count(rt: &impl Print, n: u32) {
-    print_number(rt, n as u64);
-    print(rt, b"\n");
-}
-
-// Whether this is what was read.
-fn is_word(read: Read, word: u16) -> bool {
-    match read {
-        Read::Word(found) => found == word,
-        Read::Refused(_, _) => false,
+impl Count {
+    fn more(&mut self) {
+        self.0 = self.0.wrapping_add(1);
     }
 }
 
-// The index of the first such byte, or the line's length.
-fn find(line: &[u8], byte: u8) -> usize {
-    line.iter()
-        .position(|found| *found == byte)
-        .unwrap_or(line.len())
+impl Display for Count {
+    fn fmt<W: fmt::Write>(&self, f: &mut Formatter<W>) -> fmt::Result {
+        write!(f, "{}", self.0)
+    }
 }
 
-// The index after the first blank: the mode letter's.
-fn mode_at(line: &[u8]) -> usize {
-    find(line, b' ').wrapping_add(1)
+#[derive(Clone, Copy, Default)]
+struct Tally {
+    printed: Count,
+    word_seven: Count,
+    word_eight: Count,
+    word_nine: Count,
+    back: Count,
+    spaced_back: Count,
+    line_seven: Count,
+    line_eight: Count,
+    line_nine: Count,
+    turned: Count,
+    astray: Count,
+    columns: Count,
+    data_back: Count,
 }
 
-fn other_mode(letter: u8) -> u8 {
-    if letter == b'B' { b'W' } else { b'B' }
-}
-
+// Turns the mode letter, which stands after the first blank.
 fn turn_mode(line: &mut [u8]) {
-    let at = mode_at(line);
-    if at < line.len() {
-        line[at] = other_mode(line[at]);
+    if let Some(mode) = line.iter_mut().skip_while(|byte| **byte != b' ').nth(1) {
+        *mode = if *mode == b'B' { b'W' } else { b'B' };
     }
 }
 
 // Makes the name PRZ of a line the name PRA.
 fn name_acc(line: &mut [u8]) {
-    let at = find(line, b'Z');
-    if at < line.len() {
-        line[at] = b'A';
+    if let Some(letter) = line.iter_mut().find(|byte| **byte == b'Z') {
+        *letter = b'A';
     }
 }
 
-// How many bytes a byte is where each blank is written twice.
-fn width(byte: u8) -> usize
-    ensures { result ≤ 2 }
-{
-    if byte == b' ' { 2 } else { 1 }
-}
-
-// Writes a line over blanks, leaving one before it, one after it and a second one at each of its own, and answers how many bytes that is.
-fn spread(line: &[u8], blanks: &mut [u8]) -> usize
-    requires { (length line.now ≤ 23) × (length blanks.old ≡ 64) }
-    ensures { result ≤ 64 }
-{
+// A line written over blanks, with one before it, one after it and a second one at each of its own, if that has room.
+fn spread<'a>(line: &[u8], blanks: &'a mut [u8]) -> Option<&'a [u8]> {
     let mut at: usize = 1;
     for byte in line {
-        blanks[at] = *byte;
-        at += width(*byte);
+        *blanks.get_mut(at)? = *byte;
+        at += if *byte == b' ' { 2 } else { 1 };
     }
-    at + 1
+    blanks.get(..=at)
 }
 
-fn comes_back_spaced(line: &[u8], word: u16) -> bool
-    requires { length line.now ≤ 23 }
-{
-    let mut spaced = [b' '; SPACED_BYTES];
-    let size = spread(line, &mut spaced);
-    is_word(listing::word_of(&spaced[..size]), word)
+fn comes_back_spaced(line: &[u8], word: u16) -> bool {
+    let mut blanks = [b' '; SPACED_BYTES];
+    match spread(line, &mut blanks) {
+        Some(spaced) => listing::word_of(spaced) == Ok(word),
+        None => false,
+    }
 }
 
-fn count_back(tally: Tally, word: u16, line: &[u8]) -> Tally
-    requires { length line.now ≤ 23 }
-{
-    let mut next = tally;
-    next.printed = more(tally.printed);
-    if is_word(listing::word_of(line), word) {
-        next.back = more(tally.back);
+impl Tally {
+    fn count_back(&mut self, word: u16, line: &[u8]) {
+        self.printed.more();
+        if listing::word_of(line) == Ok(word) {
+            self.back.more();
+        }
+        if comes_back_spaced(line, word) {
+            self.spaced_back.more();
+        }
     }
-    if comes_back_spaced(line, word) {
-        next.spaced_back = more(tally.spaced_back);
-    }
-    next
-}
 
-// Counts a refusal of a changed line. No number but these three is right, and no column but 0.
-fn count_line_refused(tally: Tally, number: u8, column: usize) -> Tally {
-    let mut next = tally;
-    match number {
-        7 => next.line_seven = more(tally.line_seven),
-        8 => next.line_eight = more(tally.line_eight),
-        9 => next.line_nine = more(tally.line_nine),
-        _ => next.astray = more(tally.astray),
-    }
-    if column != 0 {
-        next.columns = more(tally.columns);
-    }
-    next
-}
-
-// Counts what a changed line gives: the word that is meant, or a refusal.
-fn count_changed(tally: Tally, meant: u16, line: &[u8]) -> Tally {
-    let mut next = tally;
-    match listing::word_of(line) {
-        Read::Refused(number, column) => return count_line_refused(tally, number, column),
-        Read::Word(found) => {
-            if found == meant {
-                next.turned = more(tally.turned);
-            } else {
-                next.astray = more(tally.astray);
+    // Counts what a changed line gives: the word that is meant, or a refusal. No refusal but these three is right, and no column but 0.
+    fn count_changed(&mut self, meant: u16, line: &[u8]) {
+        match listing::word_of(line) {
+            Ok(found) if found == meant => self.turned.more(),
+            Ok(_) => self.astray.more(),
+            Err(Refused { refusal, index }) => {
+                match refusal {
+                    Refusal::Unlisted => self.line_seven.more(),
+                    Refusal::AccTwice => self.line_eight.more(),
+                    Refusal::BitTooHigh => self.line_nine.more(),
+                    _ => self.astray.more(),
+                }
+                if index != 0 {
+                    self.columns.more();
+                }
             }
         }
     }
-    next
-}
 
-fn count_line(tally: Tally, word: u16, line: &mut [u8]) -> Tally
-    requires { length line.old ≤ 23 }
-{
-    let next = count_back(tally, word, line);
-    turn_mode(line);
-    count_changed(next, word ^ MODE, line)
-}
+    // A word that gets 8 has no line: the line that means it is made of the line of a word that has PRZ for PRA.
+    fn count_eight(&mut self, word: u16) {
+        let mut line = [0; listing::LINE_BYTES];
+        let Ok(size) = listing::line_of(word | ZERO_NOT_ACC, &mut line) else {
+            return;
+        };
+        if let Some(line) = line.get_mut(..size) {
+            name_acc(line);
+            self.count_changed(word, line);
+        }
+    }
 
-fn count_renamed(tally: Tally, word: u16, line: &mut [u8]) -> Tally {
-    name_acc(line);
-    count_changed(tally, word, line)
-}
-
-// A word that gets 8 has no line: the line that means it is made of the line of a word that has PRZ for PRA.
-fn count_eight(tally: Tally, word: u16) -> Tally {
-    let mut line = [0u8; listing::LINE_BYTES];
-    match listing::line_of(word | ZERO_NOT_ACC, &mut line) {
-        Printed::Refused(_) => tally,
-        Printed::Filled(size) => {
-            if line.len() < size {
-                return tally;
+    fn count_word(&mut self, word: u16) {
+        let mut line = [0; listing::LINE_BYTES];
+        match listing::line_of(word, &mut line) {
+            Ok(size) => {
+                if let Some(line) = line.get_mut(..size) {
+                    self.count_back(word, line);
+                    turn_mode(line);
+                    self.count_changed(word ^ MODE, line);
+                }
             }
-            count_renamed(tally, word, &mut line[..size])
-        }
-    }
-}
-
-fn count_word_refused(tally: Tally, word: u16, number: u8) -> Tally {
-    let mut next = tally;
-    match number {
-        7 => next.word_seven = more(tally.word_seven),
-        8 => {
-            next.word_eight = more(tally.word_eight);
-            next = count_eight(next, word);
-        }
-        9 => next.word_nine = more(tally.word_nine),
-        _ => {}
-    }
-    next
-}
-
-fn count_word(tally: Tally, word: u16) -> Tally {
-    let mut line = [0u8; listing::LINE_BYTES];
-    match listing::line_of(word, &mut line) {
-        Printed::Refused(number) => count_word_refused(tally, word, number),
-        Printed::Filled(size) => {
-            if line.len() < size {
-                return tally;
+            Err(Refusal::Unlisted) => self.word_seven.more(),
+            Err(Refusal::AccTwice) => {
+                self.word_eight.more();
+                self.count_eight(word);
             }
-            count_line(tally, word, &mut line[..size])
+            Err(Refusal::BitTooHigh) => self.word_nine.more(),
+            Err(_) => {}
         }
     }
-}
 
-fn count_data(tally: Tally, operand: u16) -> Tally {
-    let mut line = [0u8; listing::DATA_BYTES];
-    let mut next = tally;
-    match listing::data_line(operand, &mut line) {
-        Printed::Refused(_) => {}
-        Printed::Filled(size) => {
-            if size == line.len() && is_word(listing::data_of(&line), operand) {
-                next.data_back = more(tally.data_back);
-            }
+    fn count_data(&mut self, operand: u16) {
+        let mut line = [0; listing::DATA_BYTES];
+        let printed = listing::data_line(operand, &mut line);
+        if printed == Ok(line.len()) && listing::data_of(&line) == Ok(operand) {
+            self.data_back.more();
         }
     }
-    next
-}
 
-fn print_words(rt: &impl Print, tally: Tally) {
-    print(rt, b"printed");
-    print_count(rt, tally.printed);
-    print(rt, b"word refused 7");
-    print_count(rt, tally.word_seven);
-    print(rt, b"word refused 8");
-    print_count(rt, tally.word_eight);
-    print(rt, b"word refused 9");
-    print_count(rt, tally.word_nine);
-    print(rt, b"back");
-    print_count(rt, tally.back);
-    print(rt, b"spaced back");
-    print_count(rt, tally.spaced_back);
-}
-
-fn print_changed(rt: &impl Print, tally: Tally) {
-    print(rt, b"line refused 7");
-    print_count(rt, tally.line_seven);
-    print(rt, b"line refused 9");
-    print_count(rt, tally.line_nine);
-    print(rt, b"turned");
-    print_count(rt, tally.turned);
-    print(rt, b"astray");
-    print_count(rt, tally.astray);
-    print(rt, b"line refused 8");
-    print_count(rt, tally.line_eight);
-    print(rt, b"columns");
-    print_count(rt, tally.columns);
-    print(rt, b"data back");
-    print_count(rt, tally.data_back);
-}
-
-// A word in hex, as data is written.
-fn print_word(rt: &impl Print, word: u16) {
-    let mut digits = [0u8; listing::DATA_BYTES];
-    match listing::data_line(word, &mut digits) {
-        Printed::Refused(_) => {}
-        Printed::Filled(_) => {
-            print(rt, b" ");
-            print(rt, &digits);
-        }
+    fn print(&self, rt: &impl Print) -> io::Result<()> {
+        println!(rt; "printed {}", self.printed)?;
+        println!(rt; "word refused 7 {}", self.word_seven)?;
+        println!(rt; "word refused 8 {}", self.word_eight)?;
+        println!(rt; "word refused 9 {}", self.word_nine)?;
+        println!(rt; "back {}", self.back)?;
+        println!(rt; "spaced back {}", self.spaced_back)?;
+        println!(rt; "line refused 7 {}", self.line_seven)?;
+        println!(rt; "line refused 9 {}", self.line_nine)?;
+        println!(rt; "turned {}", self.turned)?;
+        println!(rt; "astray {}", self.astray)?;
+        println!(rt; "line refused 8 {}", self.line_eight)?;
+        println!(rt; "columns {}", self.columns)?;
+        println!(rt; "data back {}", self.data_back)
     }
 }
 
 // A line between quotes, and what it gives: a word, or a refusal and its column.
-fn print_read(rt: &impl Print, line: &[u8], read: Read) {
-    print(rt, b"'");
-    print(rt, line);
-    print(rt, b"'");
+fn print_read(rt: &impl Print, line: &str, read: Result<u16, Refused>) -> io::Result<()> {
+    print!(rt; "'{line}' ")?;
     match read {
-        Read::Word(word) => print_word(rt, word),
-        Read::Refused(number, column) => {
-            print_number(rt, number as u64);
-            print_number(rt, column as u64);
-        }
+        Ok(word) => println!(rt; "{word:04X}"),
+        Err(Refused { refusal, index }) => println!(rt; "{} {index}", u8::from(refusal)),
     }
-    print(rt, b"\n");
 }
 
-fn show(rt: &impl Print, line: &[u8]) {
-    print_read(rt, line, listing::word_of(line));
+fn show_lines(rt: &impl Print) -> io::Result<()> {
+    for line in [
+        "",
+        "SOR",
+        "SORX W MOVE SOSE 7",
+        "SOR X MOVE SOSE 7",
+        "SOR W MOVE SOA 7",
+        "SOR W MOVE SOSE",
+        "SOR W MOVE SOSE 32",
+        "SOR W MOVE SOSE 07",
+        "SOR W MOVE SOSE 7 X",
+        "SOR W MOVE SOSE 07 X",
+        "NOOP W",
+        "NOOP W X",
+        "PRTNR B PRA PRTA NRY",
+        "BOR1 B 8 SETNR 0",
+        "  SOR  W MOVE SOSE 7 ",
+    ] {
+        print_read(rt, line, listing::word_of(line.as_bytes()))?;
+    }
+    Ok(())
 }
 
-fn show_data(rt: &impl Print, line: &[u8]) {
-    print(rt, b"data ");
-    print_read(rt, line, listing::data_of(line));
+fn show_data_lines(rt: &impl Print) -> io::Result<()> {
+    for line in ["0F1A", "0f1A", "0F1", "0F1A 0", ""] {
+        print!(rt; "data ")?;
+        print_read(rt, line, listing::data_of(line.as_bytes()))?;
+    }
+    Ok(())
 }
 
-fn show_lines(rt: &impl Print) {
-    show(rt, b"");
-    show(rt, b"SOR");
-    show(rt, b"SORX W MOVE SOSE 7");
-    show(rt, b"SOR X MOVE SOSE 7");
-    show(rt, b"SOR W MOVE SOA 7");
-    show(rt, b"SOR W MOVE SOSE");
-    show(rt, b"SOR W MOVE SOSE 32");
-    show(rt, b"SOR W MOVE SOSE 07");
-    show(rt, b"SOR W MOVE SOSE 7 X");
-    show(rt, b"SOR W MOVE SOSE 07 X");
-    show(rt, b"NOOP W");
-    show(rt, b"NOOP W X");
-    show(rt, b"PRTNR B PRA PRTA NRY");
-    show(rt, b"BOR1 B 8 SETNR 0");
-    show(rt, b"  SOR  W MOVE SOSE 7 ");
-}
-
-fn show_data_lines(rt: &impl Print) {
-    show_data(rt, b"0F1A");
-    show_data(rt, b"0f1A");
-    show_data(rt, b"0F1");
-    show_data(rt, b"0F1A 0");
-    show_data(rt, b"");
-}
-
-fn main(rt: HostRuntime) {
-    let mut tally = Tally {
-        printed: 0,
-        word_seven: 0,
-        word_eight: 0,
-        word_nine: 0,
-        back: 0,
-        spaced_back: 0,
-        line_seven: 0,
-        line_eight: 0,
-        line_nine: 0,
-        turned: 0,
-        astray: 0,
-        columns: 0,
-        data_back: 0,
-    };
+fn print_lines(rt: &HostRuntime) -> io::Result<()> {
+    let mut tally = Tally::default();
     for word in 0..=u16::MAX {
-        tally = count_word(tally, word);
-        tally = count_data(tally, word);
+        tally.count_word(word);
+        tally.count_data(word);
     }
-    print_words(&rt, tally);
-    print_changed(&rt, tally);
-    show_lines(&rt);
-    show_data_lines(&rt);
+    tally.print(rt)?;
+    show_lines(rt)?;
+    show_data_lines(rt)
+}
+
+// Where something cannot be printed there is nobody to tell.
+fn main(rt: HostRuntime) {
+    let _ = print_lines(&rt);
 }

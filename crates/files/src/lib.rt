@@ -10,8 +10,8 @@ pub use reading::{CHUNK, read_trace};
 use std::io::Write;
 use std::rt::{Env, HostRuntime, Stderr, Stdin, Stdout};
 use streams::has_argument;
-pub use streams::{Input, fill};
-pub use writing::{print_usage, say, write_both, write_made};
+pub use streams::{ReadFailed, WriteFailed, fill};
+pub use writing::{print_usage, say, write_made};
 
 // What a program reads, what it writes, and where it says what it cannot do.
 #[derive(Drop)]
@@ -33,9 +33,9 @@ pub fn standard(rt: &HostRuntime) -> Files<Stdin, Stdout, Stderr> {
 // Whether a program is asked how it is used, which any argument does. That is then printed where errors go, and the program has nothing more
 // to do.
 pub fn asked<E: Write>(program: Program, env: &impl Env, errors: &mut E) -> bool {
-    if has_argument(env, 1) {
+    let asked = has_argument(env, 1);
+    if asked {
         print_usage(program, errors);
-        return true;
     }
-    false
+    asked
 }

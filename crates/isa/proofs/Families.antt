@@ -1,5 +1,8 @@
 -- The table's rows and the families: each family has one row, and its number is the row's.
-use mathlib.Core.Path.{◌≡◌, refl}
+use mathlib.Core.Path.{◌≡◌, refl, sym}
+use native.Mathlib.Omega.{arith}
+use borrow.Author.Tests.{eqb-true, eqb-false}
+use Rattle.choice.specs.Pick.{pick}
 use mathlib.Core.Bool.{Bool, true, false}
 use Prim.Native.Nat.{ℕ, ◌<◌}
 use lib.Dec.{T, eqb, ltb, lit<, ltb→lt}
@@ -10,7 +13,7 @@ use Rattle.choice.proofs.Spans.{span, below, equal_below, both}
 use Rattle.isa.specs.declared.Row.{Row}
 use Rattle.isa.specs.declared.Family.{Family}
 use Rattle.isa.specs.declared.Family.TheVariants.{Tor1, Rotr1, Rotr2, Rotc, Rotm, Sor, Bor2, Tor2, Shftr, Crcf, Crcr, Prt1, Prt2, Prt3, Svstr, Sonr, Tonr, Shftnr, Bor1, Bonr, Rotnr, Prtnr, Svstnr, Setst, Rstst, Test, Noop}
-use Rattle.isa.specs.Fields.{mark_for}
+use Rattle.isa.specs.Fields.{mark_for, mode_of}
 use Rattle.isa.specs.Table.{rows, row_at, no_row, number_of}
 use Rattle.isa.specs.Decision.{Narrow}
 
@@ -81,9 +84,17 @@ narrow i h =
       c = ltb→lt r.c 0x100000000 b.1;
     }
 
-pub narrow_row : (r : Row) (i : ℕ) → i < no_row → r ≡ row_at i → Narrow r
-narrow_row r i h e = rw e (narrow i h)
-
 pub mark_small : (d : Mode) → mark_for d < 2
 mark_small Byte = lit< tt
 mark_small Word = lit< tt
+
+pub mode_back : (d : Mode) → mode_of (mark_for d) ≡ d
+mode_back Byte = refl
+mode_back Word = refl
+
+pub mark_back : (mark : ℕ) → mark < 2 → mark_for (mode_of mark) ≡ mark
+mark_back mark h = by_test (eqb mark 0) refl
+  where
+    by_test : (b : Bool) → eqb mark 0 ≡ b → mark_for (pick b Byte Word) ≡ mark
+    by_test true q = sym (eqb-true mark 0 q)
+    by_test false q = omega (arith, eqb-false mark 0 q)

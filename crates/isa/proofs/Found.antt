@@ -1,4 +1,4 @@
--- The row that is found for some fields is the one that takes them; and the table gone through row by row.
+-- The row that is found for some fields is the one that takes them; and the first row of the table that does.
 use mathlib.Core.Path.{◌≡◌, refl, ◌∙◌, sym, ap, subst}
 use mathlib.Core.Bool.{Bool, true, false}
 use mathlib.Core.List.{List, [], ◌∷◌}
@@ -7,19 +7,27 @@ use native.Mathlib.Nat.{not-suc-le-zero}
 use native.Mathlib.Omega.{arith}
 use lib.Dec.{eqb, leb}
 use lib.ListN.{length, get_or}
-use borrow.Author.Tests.{eq-eqb, eqb-true, eqb-false, leb-true, leb-false}
+use borrow.Author.Tests.{eq-eqb, eqb-true, leb-true, leb-false}
 use Rattle.choice.specs.Pick.{pick}
 use Rattle.choice.proofs.Spans.{never}
+use Rattle.std.specs.Prelude.{cond, Some, None}
+use Rattle.std.specs.List.{find}
 use Rattle.isa.specs.declared.Row.{Row}
-use Rattle.isa.specs.Fields.{mark_of, quadrant_of, field_a, field_b, field_c}
+use Rattle.isa.specs.declared.parts.Fields.{Fields}
+use Rattle.isa.specs.Fields.{mark_of, quadrant_of, field_a, field_b, field_c, mode_of, mark_for}
 use Rattle.isa.specs.Sets.{has}
 use Rattle.isa.specs.Table.{rows, row_at, no_row}
 use Rattle.isa.specs.Slots.{agrees, fits, takes, fitting, with_c, row_of}
 use Rattle.isa.specs.Words.{word_number}
-use Rattle.isa.specs.Decision.{SameRow, takes_word}
+use Rattle.isa.specs.Decision.{FieldsOf, takes_fields, RowTaking}
 use Rattle.isa.proofs.Lists.{any_default}
 use Rattle.isa.proofs.Takes.{in_turn}
+use Rattle.isa.proofs.Families.{mark_back}
 use Rattle.isa.proofs.Disjoint.{one_row}
+
+-- five equations, one of each argument
+pub five : {A : Type 0} (f : ℕ → ℕ → ℕ → ℕ → ℕ → A) (m q a b c m' q' a' b' c' : ℕ) → (m ≡ m') × (q ≡ q') × (a ≡ a') × (b ≡ b') × (c ≡ c') → f m q a b c ≡ f m' q' a' b' c'
+five f m q a b c m' q' a' b' c' (em, eq, ea, eb, ec) = cc
 
 -- what stands past the table
 abbrev blank : Row
@@ -129,48 +137,75 @@ module _ (mark q a b c : ℕ) where
 abbrev pub TakesWord : ℕ → ℕ → Type 0
 TakesWord w i = Belongs (mark_of w) (quadrant_of w) (field_a w) (field_b w) (field_c w) i
 
-apart : (i : ℕ) → i < no_row → no_row ≤ i → ⊥
-apart i h l = omega arith
+both_true : (x y : Bool) → x ≡ true → y ≡ true → pick x y false ≡ true
+both_true x y e f = rw (e, f)
 
-within : (i j k : ℕ) → i < j → j ≤ k → i < k
-within i j k h l = omega arith
+-- the first row of the table that takes some fields, in a list of rows that is the table from k on
+module _ (p : Fields) where
+  abbrev test : Row → Bool
+  test r = takes_fields r p
 
--- no row before i does
-pub record Past (w i : ℕ) : Type 0 where
-  pub bound : i ≤ no_row
-  pub none : (j : ℕ) → j < i → TakesWord w j → ⊥
+  -- row i of the table is r, and takes the fields
+  pub record Takes (r : Row) (i : ℕ) : Type 0 where
+    pub listed : i < no_row
+    pub row : row_at i ≡ r
+    pub fields : test r ≡ true
 
-pub past_start : (w : ℕ) → Past w 0
-past_start w = record { bound = omega arith; none = λ j h. absurd (not-suc-le-zero h) }
+  first_taking : (k : ℕ) (rs : List Row) → From k rs → k + length rs ≤ no_row → (r : Row) → find test rs ≡ Some r → (i : ℕ) × Takes r i
+  first_taking k [] f l r e = cc
+  first_taking k (s ∷ rs) f l r e = by_test (test s) refl e (first_taking (suc k) rs (from_tail k s rs f) (omega arith) r)
+    where
+      by_test : (b : Bool) → test s ≡ b → cond b (Some s) (find test rs) ≡ Some r → (find test rs ≡ Some r → (i : ℕ) × Takes r i) → (i : ℕ) × Takes r i
+      by_test true t e rest =
+          let same : s ≡ r = cc in
+          (k, record { listed = omega arith; row = sym (from_head k s rs f) ∙ same; fields = ap test (sym same) ∙ t })
+      by_test false t e rest = rest e
 
-past_next : (w i : ℕ) → Past w i → i < no_row → (TakesWord w i → ⊥) → Past w (i + 1)
-past_next w i p h n = record { bound = omega arith; none = λ j l t. by_test j l t (eqb j i) refl }
-  where
-    by_test : (j : ℕ) → j < i + 1 → TakesWord w j → (b : Bool) → eqb j i ≡ b → ⊥
-    by_test j l t true q = n (subst (λ (j : ℕ). TakesWord w j) (eqb-true j i q) t)
-    by_test j l t false q = p.none j (omega (arith, eqb-false j i q)) t
+  none_taking : (k : ℕ) (rs : List Row) → From k rs → find test rs ≡ None → (j : ℕ) → j < length rs → test (row_at (k + j)) ≡ false
+  none_taking k [] f e j h = absurd (not-suc-le-zero h)
+  none_taking k (s ∷ rs) f e j h = by_test (test s) refl e j h (none_taking (suc k) rs (from_tail k s rs f))
+    where
+      by_test : (b : Bool) → test s ≡ b → cond b (Some s) (find test rs) ≡ None → (j : ℕ) → j < length (s ∷ rs)
+          → (find test rs ≡ None → (j : ℕ) → j < length rs → test (row_at (suc k + j)) ≡ false) → test (row_at (k + j)) ≡ false
+      by_test true t e j h rest = cc
+      by_test false t e zero h rest = let z : k + 0 ≡ k = omega arith in ap test (ap row_at z ∙ sym (from_head k s rs f)) ∙ t
+      by_test false t e (suc j) h rest = let z : k + suc j ≡ suc k + j = omega arith in ap test (ap row_at z) ∙ rest e j (omega arith)
 
--- row i takes the word, which is then its own, or does not
-module _ (w i : ℕ) (p : Past w i) (h : i < no_row) (t : Bool) (e : t ≡ takes_word (row_at i) w) where
-  pub row_found : t ≡ true → SameRow w i
-  unfolding SameRow
-  row_found f =
-      let u = in_turn (eqb (row_at i).quadrant (quadrant_of w)) (takes (row_at i) (mark_of w) (field_a w) (field_b w) (field_c w)) (sym e ∙ f) in
-      let belongs : TakesWord w i = record { listed = h; quadrant = eqb-true (row_at i).quadrant (quadrant_of w) u.0; fields = u.1 } in
-      (λ l. sym (belongs_row (mark_of w) (quadrant_of w) (field_a w) (field_b w) (field_c w) i belongs), λ l. absurd (apart i h l))
+  pub taking_some : (r : Row) → RowTaking p (Some r) → (i : ℕ) × Takes r i
+  unfolding RowTaking
+  taking_some r e = first_taking 0 rows whole in_table r (sym e)
 
-  pub row_past : t ≡ false → Past w (i + 1)
-  row_past f =
-      past_next w i p h
-      (λ b. never (sym f ∙ e ∙ rw (eq-eqb (row_at i).quadrant (quadrant_of w) b.quadrant, b.fields)))
+  pub taking_none : RowTaking p None → (j : ℕ) → j < no_row → test (row_at j) ≡ false
+  unfolding RowTaking
+  taking_none e j h = let z : j ≡ 0 + j = omega arith in ap test (ap row_at z) ∙ none_taking 0 rows whole (sym e) j h
 
--- past the last row no row takes the word
-pub row_missed : (w i : ℕ) → Past w i → no_row ≤ i → SameRow w i
-unfolding SameRow
-row_missed w i p h = (λ l. absurd (apart i l h), λ l. by_test (leb no_row (word_number w)) refl)
-  where
-    by_test : (b : Bool) → leb no_row (word_number w) ≡ b → no_row ≤ word_number w
-    by_test true q = leb-true no_row (word_number w) q
-    by_test false q =
-        let listed : word_number w < no_row = leb-false no_row (word_number w) q in
-        absurd (p.none (word_number w) (within (word_number w) no_row i listed h) (row_belongs (mark_of w) (quadrant_of w) (field_a w) (field_b w) (field_c w) listed))
+  -- the fields are a word's: a row that takes them is the word's own
+  module _ (w : ℕ) (bound : w < 0x10000) (h : FieldsOf p w) where
+    abbrev takes_word : Row → ℕ → ℕ → ℕ → ℕ → ℕ → Bool
+    takes_word r m q a b c = pick (eqb r.quadrant q) (takes r m a b c) false
+
+    of_word : (r : Row) → test r ≡ takes_word r (mark_of w) (quadrant_of w) (field_a w) (field_b w) (field_c w)
+    of_word r =
+        five (takes_word r) (mark_for (mode_of p.mark)) p.quadrant p.a p.b p.c (mark_of w) (quadrant_of w) (field_a w) (field_b w) (field_c w)
+        (ap (λ (m : ℕ). mark_for (mode_of m)) h.mark ∙ mark_back (mark_of w) (omega arith), h.quadrant, h.a, h.b, h.c)
+
+    pub taking_own : (r : Row) (i : ℕ) → Takes r i → word_number w ≡ i
+    taking_own r i t =
+        let u = in_turn (eqb r.quadrant (quadrant_of w)) (takes r (mark_of w) (field_a w) (field_b w) (field_c w)) (sym (of_word r) ∙ t.fields) in
+        belongs_row (mark_of w) (quadrant_of w) (field_a w) (field_b w) (field_c w) i
+        (record {
+          listed = t.listed;
+          quadrant = ap (λ (r : Row). r.quadrant) t.row ∙ eqb-true r.quadrant (quadrant_of w) u.0;
+          fields = ap (λ (r : Row). takes r (mark_of w) (field_a w) (field_b w) (field_c w)) t.row ∙ u.1;
+        })
+
+    pub none_own : ((j : ℕ) → j < no_row → test (row_at j) ≡ false) → no_row ≤ word_number w
+    none_own n = by_test (leb no_row (word_number w)) refl
+      where
+        by_test : (b : Bool) → leb no_row (word_number w) ≡ b → no_row ≤ word_number w
+        by_test true q = leb-true no_row (word_number w) q
+        by_test false q =
+            let listed : word_number w < no_row = leb-false no_row (word_number w) q in
+            let own = row_belongs (mark_of w) (quadrant_of w) (field_a w) (field_b w) (field_c w) listed in
+            let r = row_at (word_number w) in
+            absurd (never (sym (n (word_number w) listed) ∙ of_word r ∙ both_true (eqb r.quadrant (quadrant_of w)) (takes r (mark_of w) (field_a w) (field_b w) (field_c w)) (eq-eqb r.quadrant (quadrant_of w) own.quadrant) own.fields))

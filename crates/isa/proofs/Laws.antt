@@ -2,7 +2,7 @@
 -- holds, and one answer to each call.
 -- The laws, in this order: `family_in`, `one_family`, `encode_decode`, `encode_small`, `decode_encode`, `word_answered`, `named_answered`,
 -- `word_seven`, `word_eight`, `word_nine`, `named_seven`, `named_eight`, `named_nine`, `number_of_named`, `accepted_word_lem`,
--- `slot_accepts_lem`, `decode_unique`, `look_up_unique`, `encode_unique`, `number_of_unique`, `numbered_row_unique`, `takes_immediate_unique`.
+-- `slot_accepts_lem`, `decode_unique`, `look_up_number`, `look_up_told`, `look_up_unique`, `encode_unique`, `mark_for_unique`, `mode_of_unique`, `number_of_unique`, `numbered_row_unique`, `takes_immediate_unique`.
 use mathlib.Core.Path.{◌≡◌, refl, ◌∙◌, sym, ap, subst}
 use mathlib.Core.Bool.{Bool, true, false, not}
 use mathlib.Core.List.{List, [], ◌∷◌}
@@ -13,28 +13,28 @@ use native.Mathlib.Nat.{div-div-eq-div-mul, not-suc-le-zero}
 use lib.Dec.{T, eqb, leb}
 use borrow.Author.Tests.{eqb-true, eqb-false, leb-false, leb-true, not-true, not-false}
 use Rattle.alu.specs.declared.Mode.{Mode}
-use Rattle.alu.specs.declared.Mode.TheVariants.{Byte, Word}
 use Rattle.choice.specs.Pick.{pick}
 use Rattle.choice.specs.Checks.{Check, check, refusal, clear}
 use Rattle.choice.specs.Tells.{accepted, tells}
 use Rattle.choice.proofs.Spans.{never}
 use Rattle.choice.proofs.Checks.{positive, exactly, cleared, passed}
 use Rattle.choice.proofs.Tells.{accepted_one, refused_one, accepted_refused, told_accepted, told_number}
+use Rattle.std.specs.Prelude.{Result, Ok, Err}
+use Rattle.refusals.specs.declared.Refusal.{Refusal}
+use Rattle.refusals.specs.Numbers.{number_of as refusal_number}
+use Rattle.refusals.proofs.Laws.{number_of_one}
 use Rattle.isa.specs.declared.Family.{Family}
 use Rattle.isa.specs.declared.Row.{Row}
 use Rattle.isa.specs.declared.Named.{Named}
 use Rattle.isa.specs.declared.Lookup.{Lookup}
-use Rattle.isa.specs.declared.Decoded.{Decoded}
-use Rattle.isa.specs.declared.Encoded.{Encoded}
 use Rattle.isa.specs.Fields.{mark_of, quadrant_of, field_a, field_b, field_c, word_of, mode_of, mark_for}
-use Rattle.isa.specs.Table.{row_at, no_row, number_of}
+use Rattle.isa.specs.Table.{row_at, no_row, number_of, numbered}
 use Rattle.isa.specs.Slots.{takes, row_of}
 use Rattle.isa.specs.Words.{InFamily, Listed, acc_twice, bit_too_high, rule_checks, word_number, word_row, word_checks, named_by, decode_of, lookup_of, decoded_tells, named_row, named_checks, word_for, encode_of, encoded_tells, takes_immediate, accepted_word, some_below, slot_accepts, Answered}
-use Rattle.isa.specs.Decision.{fill_of}
-use Rattle.isa.proofs.Families.{own_row, own_number, narrow, mark_small}
+use Rattle.isa.proofs.Families.{own_row, own_number, narrow, mark_small, mode_back, mark_back}
 use Rattle.isa.proofs.Takes.{small}
-use Rattle.isa.proofs.Answers.{answer_at, answer_accepted, decoded, fill_accepted}
-use Rattle.isa.proofs.Found.{Belongs, TakesWord, row_belongs, belongs_row}
+use Rattle.isa.proofs.Answers.{fill_of, answer_at, answer_accepted, decoded, fill_free, looked_number, told as told_by}
+use Rattle.isa.proofs.Found.{five, Belongs, TakesWord, row_belongs, belongs_row}
 
 -- the row of a family that takes a word is the word's
 number_in : (f : Family) (w : ℕ) → InFamily f w → word_number w ≡ number_of f
@@ -64,17 +64,6 @@ module _ (mark q a b c : ℕ) (h : (mark < 2) × (q < 4) × (a < 16) × (b < 16)
 joined : (w : ℕ) → w < 0x10000 → word_of (mark_of w) (quadrant_of w) (field_a w) (field_b w) (field_c w) ≡ w
 joined w h = omega (arith, div-div-eq-div-mul w 0x20 16, div-div-eq-div-mul w 0x200 16, div-div-eq-div-mul w 0x2000 4)
 
-pub mode_back : (d : Mode) → mode_of (mark_for d) ≡ d
-mode_back Byte = refl
-mode_back Word = refl
-
-pub mark_back : (mark : ℕ) → mark < 2 → mark_for (mode_of mark) ≡ mark
-mark_back mark h = by_test (eqb mark 0) refl
-  where
-    by_test : (b : Bool) → eqb mark 0 ≡ b → mark_for (pick b Byte Word) ≡ mark
-    by_test true q = sym (eqb-true mark 0 q)
-    by_test false q = omega (arith, eqb-false mark 0 q)
-
 -- an accepted word gives its instruction, whose word it is
 module _ (w : ℕ) (h : w < 0x10000) (n : Named) (e : decode_of w ≡ accepted n) where
   told : (refusal (word_checks w) ≡ 0) × (named_by w ≡ n)
@@ -97,12 +86,9 @@ module _ (w : ℕ) (h : w < 0x10000) (n : Named) (e : decode_of w ≡ accepted n
       ap encode_of (sym told.1)
       ∙ ap (λ (i : ℕ). fill_of (row_at i) (mark_for (mode_of (mark_of w))) (field_a w) (field_b w) (field_c w)) (own_number (word_number w) own.listed)
       ∙ ap (λ (m : ℕ). fill_of (word_row w) m (field_a w) (field_b w) (field_c w)) (mark_back (mark_of w) (omega arith))
-      ∙ sym (fill_accepted (word_row w) (mark_of w) (field_a w) (field_b w) (field_c w) true (sym own.fields) refl 0 (sym free.1) refl)
+      ∙ sym (fill_free (word_row w) (mark_of w) (field_a w) (field_b w) (field_c w) true (sym own.fields) refl free.1)
       ∙ ap (λ (q : ℕ). accepted (word_of (mark_of w) q (field_a w) (field_b w) (field_c w))) own.quadrant
       ∙ ap accepted (joined w h)
-
-five : {A : Type 0} (f : ℕ → ℕ → ℕ → ℕ → ℕ → A) (m q a b c m' q' a' b' c' : ℕ) → (m ≡ m') × (q ≡ q') × (a ≡ a') × (b ≡ b') × (c ≡ c') → f m q a b c ≡ f m' q' a' b' c'
-five f m q a b c m' q' a' b' c' (em, eq, ea, eb, ec) = cc
 
 -- an accepted instruction has a word, whose instruction it is
 module _ (n : Named) (w : ℕ) (e : encode_of n ≡ accepted w) where
@@ -373,27 +359,42 @@ slot_accepts_lem w =
     )
 
 -- what an answer tells fixes the answer
-decoded_one : (r s : Decoded) → decoded_tells r ≡ decoded_tells s → r ≡ s
-decoded_one (Decoded.Accepted x) (Decoded.Accepted y) e = ap Decoded.Accepted (accepted_one x y e)
-decoded_one (Decoded.Accepted x) (Decoded.Refused k) e = absurd (accepted_refused x k e)
-decoded_one (Decoded.Refused k) (Decoded.Accepted x) e = absurd (accepted_refused x k (sym e))
-decoded_one (Decoded.Refused j) (Decoded.Refused k) e = ap Decoded.Refused (refused_one {A = Named} j k e)
+decoded_one : (r s : Result Named Refusal) → decoded_tells r ≡ decoded_tells s → r ≡ s
+decoded_one (Ok x) (Ok y) e = ap Ok (accepted_one x y e)
+decoded_one (Ok x) (Err k) e = absurd (accepted_refused x (refusal_number k) e)
+decoded_one (Err k) (Ok x) e = absurd (accepted_refused x (refusal_number k) (sym e))
+decoded_one (Err j) (Err k) e = ap Err (number_of_one j k (refused_one {A = Named} (refusal_number j) (refusal_number k) e))
 
-encoded_one : (r s : Encoded) → encoded_tells r ≡ encoded_tells s → r ≡ s
-encoded_one (Encoded.Accepted x) (Encoded.Accepted y) e = ap Encoded.Accepted (accepted_one x y e)
-encoded_one (Encoded.Accepted x) (Encoded.Refused k) e = absurd (accepted_refused x k e)
-encoded_one (Encoded.Refused k) (Encoded.Accepted x) e = absurd (accepted_refused x k (sym e))
-encoded_one (Encoded.Refused j) (Encoded.Refused k) e = ap Encoded.Refused (refused_one {A = ℕ} j k e)
+encoded_one : (r s : Result ℕ Refusal) → encoded_tells r ≡ encoded_tells s → r ≡ s
+encoded_one (Ok x) (Ok y) e = ap Ok (accepted_one x y e)
+encoded_one (Ok x) (Err k) e = absurd (accepted_refused x (refusal_number k) e)
+encoded_one (Err k) (Ok x) e = absurd (accepted_refused x (refusal_number k) (sym e))
+encoded_one (Err j) (Err k) e = ap Err (number_of_one j k (refused_one {A = ℕ} (refusal_number j) (refusal_number k) e))
 
 -- no two outcomes satisfy the statement of a call
-pub decode_unique : (w : ℕ) (r s : Decoded) → decoded_tells r ≡ decode_of w → decoded_tells s ≡ decode_of w → r ≡ s
+pub decode_unique : (w : ℕ) (r s : Result Named Refusal) → decoded_tells r ≡ decode_of w → decoded_tells s ≡ decode_of w → r ≡ s
 decode_unique w r s p q = decoded_one r s (p ∙ sym q)
+
+-- a lookup has the refusal that decoding gives, told by its number
+pub look_up_number : (w : ℕ) → numbered (lookup_of w).refusal ≡ (decode_of w).number
+unfolding decode_of
+look_up_number w = looked_number w ∙ sym (told_number (refusal (word_checks w)) (named_by w))
+
+-- and tells what decoding does
+pub look_up_told : (w : ℕ) → tells (numbered (lookup_of w).refusal) (lookup_of w).named ≡ decode_of w
+look_up_told w = told_by w (lookup_of w) refl
 
 pub look_up_unique : (w : ℕ) (r s : Lookup) → r ≡ lookup_of w → s ≡ lookup_of w → r ≡ s
 look_up_unique w r s p q = p ∙ sym q
 
-pub encode_unique : (n : Named) (r s : Encoded) → encoded_tells r ≡ encode_of n → encoded_tells s ≡ encode_of n → r ≡ s
+pub encode_unique : (n : Named) (r s : Result ℕ Refusal) → encoded_tells r ≡ encode_of n → encoded_tells s ≡ encode_of n → r ≡ s
 encode_unique n r s p q = encoded_one r s (p ∙ sym q)
+
+pub mark_for_unique : (d : Mode) (r s : ℕ) → r ≡ mark_for d → s ≡ mark_for d → r ≡ s
+mark_for_unique d r s p q = p ∙ sym q
+
+pub mode_of_unique : (k : ℕ) (r s : Mode) → r ≡ mode_of k → s ≡ mode_of k → r ≡ s
+mode_of_unique k r s p q = p ∙ sym q
 
 pub number_of_unique : (f : Family) (r s : ℕ) → r ≡ number_of f → s ≡ number_of f → r ≡ s
 number_of_unique f r s p q = p ∙ sym q

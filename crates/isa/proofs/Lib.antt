@@ -4,7 +4,7 @@ pub mod Families
 pub mod Takes
 pub mod Arms
 pub mod Shared
-pub mod Answers
 pub mod Disjoint
 pub mod Found
+pub mod Answers
 pub mod Laws

@@ -1,17 +1,16 @@
 -- For the contracts of private parts of decoder and encoder alone: nobody needs this file to know what a word means, which Table, Slots and Words
 -- say. The decision over quadrant, A and B answers a slot by the number of its first row.
-use Rattle.std.specs.Prelude.{ℕ, ◌<◌, ◌≤◌, List, [], ◌∷◌, ◌≡◌, Bool, false, not, eqb, ltb}
+use Rattle.std.specs.Prelude.{ℕ, ◌<◌, List, [], ◌∷◌, ◌≡◌, Bool, false, eqb, ltb, Option, Some, None}
+use Rattle.std.specs.List.{find}
 use Rattle.choice.specs.Pick.{pick}
-use Rattle.choice.specs.Checks.{check, refusal}
-use Rattle.choice.specs.Tells.{Tells, tells}
 use Rattle.isa.specs.declared.Family.{Family}
-use Rattle.isa.specs.declared.Family.TheVariants.{Tor1, Bonr, Rotnr}
+use Rattle.isa.specs.declared.Family.TheVariants.{Bonr, Rotnr}
 use Rattle.isa.specs.declared.Row.{Row}
 use Rattle.isa.specs.declared.Named.{Named}
-use Rattle.isa.specs.Fields.{mark_of, quadrant_of, field_a, field_b, field_c, mode_of, word_of}
-use Rattle.isa.specs.Table.{row, no_row, number_of}
-use Rattle.isa.specs.Slots.{slot_rows, takes}
-use Rattle.isa.specs.Words.{rule_checks, word_number}
+use Rattle.isa.specs.declared.parts.Fields.{Fields}
+use Rattle.isa.specs.Fields.{mark_of, quadrant_of, field_a, field_b, field_c, mode_of, mark_for}
+use Rattle.isa.specs.Table.{rows, no_row, number_of}
+use Rattle.isa.specs.Slots.{slot_rows, takes, row_of}
 
 abbrev pub first_of : List ℕ → ℕ
 first_of [] = no_row
@@ -29,25 +28,30 @@ sharing s =
     (pick (eqb s (number_of Rotnr)) (number_of Bonr ∷ number_of Rotnr ∷ []) (s ∷ [])))
     []
 
--- i is the number of a word's row, or no_row. Under a name, so that no proof opens the search for the row
-unfoldable pub RowIs : ℕ → ℕ → Type 0
-RowIs w i = i ≡ word_number w
+-- the number of a family's row, or no_row
+abbrev pub row_number : Option Family → ℕ
+row_number None = no_row
+row_number (Some f) = number_of f
 
--- a row takes a word: it is of the word's quadrant and has its mode and fields
-abbrev pub takes_word : Row → ℕ → Bool
-takes_word r w = pick (eqb r.quadrant (quadrant_of w)) (takes r (mark_of w) (field_a w) (field_b w) (field_c w)) false
+-- the fields are a word's
+pub record FieldsOf (p : Fields) (w : ℕ) : Type 0 where
+  pub mark : p.mark ≡ mark_of w
+  pub quadrant : p.quadrant ≡ quadrant_of w
+  pub a : p.a ≡ field_a w
+  pub b : p.b ≡ field_b w
+  pub c : p.c ≡ field_c w
 
--- i is the number of a word's row, or neither is a row's number
-unfoldable pub SameRow : ℕ → ℕ → Type 0
-SameRow w i = (i < no_row → i ≡ word_number w) × (no_row ≤ i → no_row ≤ word_number w)
+-- the family is that of the row which some fields belong to. Under a name, so that no proof opens the search for the row
+unfoldable pub RowIs : Fields → Option Family → Type 0
+RowIs p r = row_number r ≡ row_of p.mark p.quadrant p.a p.b p.c
 
--- the instruction of a family that has a word's fields
-abbrev pub named_as : Family → ℕ → Named
-named_as f w = record { family = f; mode = mode_of (mark_of w); a = field_a w; b = field_b w; c = field_c w }
+-- the instruction of a family that has some fields
+abbrev pub named_by_fields : Family → Fields → Named
+named_by_fields f p = record { family = f; mode = mode_of p.mark; a = p.a; b = p.b; c = p.c }
 
--- a row of which only the rule counts, for what a rule refuses
-abbrev pub rule_only : ℕ → Row
-rule_only k = row Tor1 0 0 0 0 0 k 0
+-- a row takes some fields: it is of their quadrant and has their mode and values
+abbrev pub takes_fields : Row → Fields → Bool
+takes_fields r p = pick (eqb r.quadrant p.quadrant) (takes r (mark_for (mode_of p.mark)) p.a p.b p.c) false
 
 -- a row's quadrant, and its sets of values of A, B and C, fit into what the code has for them
 pub record Narrow (r : Row) : Type 0 where
@@ -56,7 +60,6 @@ pub record Narrow (r : Row) : Type 0 where
   pub b : r.b < 0x10000
   pub c : r.c < 0x100000000
 
--- the answer for the fields of a named instruction, once its row is known
-unfoldable pub fill_of : Row → ℕ → ℕ → ℕ → ℕ → Tells ℕ
-fill_of r mark a b c =
-    tells (refusal (check 7 (not (takes r mark a b c)) ∷ rule_checks r mark a b)) (word_of mark r.quadrant a b c)
+-- the first row of the table that takes some fields. Under a name, likewise
+unfoldable pub RowTaking : Fields → Option Row → Type 0
+RowTaking p r = r ≡ find (λ s. takes_fields s p) rows

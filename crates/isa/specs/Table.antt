@@ -1,6 +1,10 @@
 -- The instruction list of document 01 as a table: 27 rows, one per family, in the order of quadrants Q0 to Q3.
 -- A word belongs to a row by its quadrant, its mode, and its fields A, B and C, each of which has a list of values.
-use Rattle.std.specs.Prelude.{ℕ, ◌*◌, ◌^◌, List, [], ◌∷◌, get_or}
+use Rattle.std.specs.Prelude.{ℕ, ◌*◌, ◌^◌, List, [], ◌∷◌, get_or, eqb, Option, Some, None}
+use Rattle.choice.specs.Pick.{pick}
+use Rattle.refusals.specs.declared.Refusal.{Refusal}
+use Rattle.refusals.specs.declared.Refusal.TheVariants.{Unlisted, AccTwice, BitTooHigh}
+use Rattle.refusals.specs.Numbers.{number_of as refusal_number}
 use Rattle.isa.specs.declared.Family.{Family}
 use Rattle.isa.specs.declared.Family.TheVariants.{Tor1, Rotr1, Rotr2, Rotc, Rotm, Sor, Bor2, Tor2, Shftr, Crcf, Crcr, Prt1, Prt2, Prt3, Svstr, Sonr, Tonr, Shftnr, Bor1, Bonr, Rotnr, Prtnr, Svstnr, Setst, Rstst, Test, Noop}
 use Rattle.isa.specs.declared.Row.{Row}
@@ -80,17 +84,26 @@ bit_acts = these (0 ∷ 1 ∷ 2 ∷ 4 ∷ 5 ∷ 6 ∷ 7 ∷ 16 ∷ 17 ∷ 18 ∷
 abbrev pub turns : ℕ
 turns = these (24 ∷ 25 ∷ 28 ∷ 29 ∷ [])
 
--- a family's rule beyond the lists, by the number of the refusal where it does not hold
-abbrev pub no_rule : ℕ
-no_rule = 0
+-- a family's rule beyond the lists, by the refusal where it does not hold
+abbrev pub no_rule : Option Refusal
+no_rule = None
 
 -- ACC is not source and mask at once
-abbrev pub one_acc : ℕ
-one_acc = 8
+abbrev pub one_acc : Option Refusal
+one_acc = Some AccTwice
 
 -- in byte mode n is at most 7
-abbrev pub bit_in_mode : ℕ
-bit_in_mode = 9
+abbrev pub bit_in_mode : Option Refusal
+bit_in_mode = Some BitTooHigh
+
+-- the documents' number of a refusal, 0 where there is none
+abbrev pub numbered : Option Refusal → ℕ
+numbered None = 0
+numbered (Some k) = refusal_number k
+
+-- and back, of the numbers that a word or a named instruction can get
+abbrev pub refusal_of : ℕ → Option Refusal
+refusal_of k = pick (eqb k 7) (Some Unlisted) (pick (eqb k 8) one_acc (pick (eqb k 9) bit_in_mode no_rule))
 
 -- the values of A, or of B, with which an instruction of the family has an I operand: bit k for A, bit 16 + k for B
 abbrev pub with_a : List ℕ → ℕ
@@ -103,7 +116,7 @@ abbrev pub never : ℕ
 never = 0
 
 -- family, quadrant, modes, the values of A, B and C, the rule of 8 or 9 if any, and the values with which there is an I operand
-abbrev pub row : Family → ℕ → ℕ → ℕ → ℕ → ℕ → ℕ → ℕ → Row
+abbrev pub row : Family → ℕ → ℕ → ℕ → ℕ → ℕ → Option Refusal → ℕ → Row
 row f q m a b c r i = record { family = f; quadrant = q; modes = m; a = a; b = b; c = c; rule = r; immediate = i }
 
 abbrev pub rows : List Row

@@ -1,18 +1,18 @@
 -- Words and named instructions: what decoding and encoding tell (document 01, the instruction list and the refusal numbers).
-use Rattle.std.specs.Prelude.{ℕ, zero, suc, ◌+◌, ◌*◌, ◌/◌, ◌≡◌, Bool, true, false, not, List, [], ◌∷◌, ◌++◌, eqb, leb, ltb, ◌⊎◌}
+use Rattle.std.specs.Prelude.{ℕ, zero, suc, ◌+◌, ◌*◌, ◌/◌, ◌≡◌, Bool, true, false, not, List, [], ◌∷◌, ◌++◌, eqb, leb, ltb, ◌⊎◌, Result, Ok, Err}
 use Rattle.std.proofs.Math.Option.{Option, none, some}
 use Rattle.choice.specs.Pick.{pick}
 use Rattle.choice.specs.Checks.{Check, check, refusal, clear}
 use Rattle.choice.specs.Tells.{Tells, accepted, refused, tells}
+use Rattle.refusals.specs.declared.Refusal.{Refusal}
+use Rattle.refusals.specs.Numbers.{number_of as refusal_number}
 use Rattle.isa.specs.declared.Family.{Family}
 use Rattle.isa.specs.declared.Row.{Row}
 use Rattle.isa.specs.declared.Named.{Named}
 use Rattle.isa.specs.declared.Lookup.{Lookup}
-use Rattle.isa.specs.declared.Decoded.{Decoded}
-use Rattle.isa.specs.declared.Encoded.{Encoded}
 use Rattle.isa.specs.Fields.{mark_of, quadrant_of, field_a, field_b, field_c, word_of, mode_of, mark_for}
 use Rattle.isa.specs.Sets.{has}
-use Rattle.isa.specs.Table.{row_at, no_row, number_of, one_acc, bit_in_mode}
+use Rattle.isa.specs.Table.{row_at, no_row, number_of, one_acc, bit_in_mode, numbered, refusal_of}
 use Rattle.isa.specs.Slots.{takes, row_of}
 
 -- a family takes a word (document 01, the instruction list): the word has the quadrant of the family's row, and a mode and fields that the row
@@ -23,11 +23,11 @@ pub record InFamily (f : Family) (w : ℕ) : Type 0 where
 
 -- 8: prioritize with ACC as source (B 4) and as mask (A 8)
 abbrev pub acc_twice : Row → ℕ → ℕ → Bool
-acc_twice r a b = pick (eqb r.rule one_acc) (pick (eqb a 8) (eqb b 4) false) false
+acc_twice r a b = pick (eqb (numbered r.rule) (numbered one_acc)) (pick (eqb a 8) (eqb b 4) false) false
 
 -- 9: a bit instruction in byte mode with n over 7
 abbrev pub bit_too_high : Row → ℕ → ℕ → Bool
-bit_too_high r mark a = pick (eqb r.rule bit_in_mode) (pick (eqb mark 0) (ltb 7 a) false) false
+bit_too_high r mark a = pick (eqb (numbered r.rule) (numbered bit_in_mode)) (pick (eqb mark 0) (ltb 7 a) false) false
 
 -- what a row's rule refuses, in words and named instructions alike
 abbrev pub rule_checks : Row → ℕ → ℕ → ℕ → List Check
@@ -69,15 +69,14 @@ named_by w = record { family = (word_row w).family; mode = mode_of (mark_of w); 
 unfoldable pub decode_of : ℕ → Tells Named
 decode_of w = tells (refusal (word_checks w)) (named_by w)
 
--- a flat answer: the number of the refusal, or 0, and the instruction that the word's row and fields name. Of a refused word the number alone
--- means something
+-- a flat answer: the refusal, if any, and the instruction that the word's row and fields name. Of a refused word the refusal alone means something
 unfoldable pub lookup_of : ℕ → Lookup
-lookup_of w = record { refusal = refusal (word_checks w); named = named_by w }
+lookup_of w = record { refusal = refusal_of (refusal (word_checks w)); named = named_by w }
 
 -- what the decoder's answer tells
-abbrev pub decoded_tells : Decoded → Tells Named
-decoded_tells (Decoded.Accepted n) = accepted n
-decoded_tells (Decoded.Refused k) = refused k
+abbrev pub decoded_tells : Result Named Refusal → Tells Named
+decoded_tells (Ok n) = accepted n
+decoded_tells (Err k) = refused (refusal_number k)
 
 -- the row of an instruction's family
 abbrev pub named_row : Named → Row
@@ -103,9 +102,9 @@ unfoldable pub encode_of : Named → Tells ℕ
 encode_of n = tells (refusal (named_checks n)) (word_for n)
 
 -- what the encoder's answer tells
-abbrev pub encoded_tells : Encoded → Tells ℕ
-encoded_tells (Encoded.Accepted w) = accepted w
-encoded_tells (Encoded.Refused k) = refused k
+abbrev pub encoded_tells : Result ℕ Refusal → Tells ℕ
+encoded_tells (Ok w) = accepted w
+encoded_tells (Err k) = refused (refusal_number k)
 
 -- the row's instruction with these values of A and B has an I operand
 abbrev pub asks_i : Row → ℕ → ℕ → Bool

@@ -1,10 +1,12 @@
-// The instruction list of document 01 as a table. The encoder and `takes_immediate` read its rows; the decoder answers a row by its number, and
-// takes the family and the rule from two of its columns.
-ghost use Rattle.std.specs.Prelude.{◌≡◌, ◌<◌, eqb};
-ghost use Rattle.choice.specs.Along.{Along};
-ghost use Rattle.isa.specs.Table.{row_at, no_row, number_of};
+// The instruction list of document 01 as a table. The encoder and `takes_immediate` read its rows; the decoder answers a row by its family, and
+// takes the rule from its column.
+ghost use Rattle.std.specs.Prelude.{◌≡◌};
+ghost use Rattle.isa.specs.Table.{row_at, number_of};
+ghost use Rattle.isa.specs.Decision.{RowTaking};
 
-use crate::{Family, Row, number};
+use crate::parts::Fields;
+use crate::{Family, Row};
+use refusals::Refusal;
 
 // Sets of modes, of places n and of RAM addresses.
 const BYTE: u8 = 0x1;
@@ -17,15 +19,13 @@ const N: u16 = 0xFFFF;
 
 const ADDRESS: u32 = 0xFFFFFFFF;
 
-// The rules, by the number of the refusal: ACC is not source and mask at once; in byte mode n is at most 7.
-const NO_RULE: u8 = 0;
+// The rules, by the refusal: ACC is not source and mask at once; in byte mode n is at most 7.
+const ONE_ACC: Option<Refusal> = Some(Refusal::AccTwice);
 
-const ONE_ACC: u8 = 8;
-
-const BIT_IN_MODE: u8 = 9;
+const BIT_IN_MODE: Option<Refusal> = Some(Refusal::BitTooHigh);
 
 // One row per family, in the order of the families. Bit k of a set says whether k is in it.
-const ROWS: [Row; 27] = [
+pub(crate) const ROWS: [Row; 27] = [
     // A 0, 2, 3, 8, 10 to 12, 14, 15; B 0 to 11; C a RAM address; I with A 2, 10, 14
     Row {
         family: Family::Tor1,
@@ -34,7 +34,7 @@ const ROWS: [Row; 27] = [
         a: 0xDD0D,
         b: 0x0FFF,
         c: ADDRESS,
-        rule: NO_RULE,
+        rule: None,
         immediate: 0x00004404,
     },
     // A n; B 12, 14, 15; C a RAM address
@@ -45,7 +45,7 @@ const ROWS: [Row; 27] = [
         a: N,
         b: 0xD000,
         c: ADDRESS,
-        rule: NO_RULE,
+        rule: None,
         immediate: 0,
     },
     // A n; B 0, 1; C a RAM address
@@ -56,7 +56,7 @@ const ROWS: [Row; 27] = [
         a: N,
         b: 0x0003,
         c: ADDRESS,
-        rule: NO_RULE,
+        rule: None,
         immediate: 0,
     },
     // A n; B 2 to 5; C a RAM address; I with B 2, 3, 5
@@ -67,7 +67,7 @@ const ROWS: [Row; 27] = [
         a: N,
         b: 0x003C,
         c: ADDRESS,
-        rule: NO_RULE,
+        rule: None,
         immediate: 0x002C0000,
     },
     // A n; B 7 to 10, 12, 14; C a RAM address; I with B 7, 9, 12, 14
@@ -78,7 +78,7 @@ const ROWS: [Row; 27] = [
         a: N,
         b: 0x5780,
         c: ADDRESS,
-        rule: NO_RULE,
+        rule: None,
         immediate: 0x52800000,
     },
     // A 12 to 15; B 0, 2 to 4, 6 to 11; C a RAM address; I with B 7
@@ -89,7 +89,7 @@ const ROWS: [Row; 27] = [
         a: 0xF000,
         b: 0x0FDD,
         c: ADDRESS,
-        rule: NO_RULE,
+        rule: None,
         immediate: 0x00800000,
     },
     // A n; B 12 to 15; C a RAM address
@@ -111,7 +111,7 @@ const ROWS: [Row; 27] = [
         a: 0x0026,
         b: 0x0FFF,
         c: ADDRESS,
-        rule: NO_RULE,
+        rule: None,
         immediate: 0x00000024,
     },
     // A 6, 7; B 0 to 2, 4 to 8; C a RAM address
@@ -122,7 +122,7 @@ const ROWS: [Row; 27] = [
         a: 0x00C0,
         b: 0x01F7,
         c: ADDRESS,
-        rule: NO_RULE,
+        rule: None,
         immediate: 0,
     },
     // A 6; B 3; C a RAM address
@@ -133,7 +133,7 @@ const ROWS: [Row; 27] = [
         a: 0x0040,
         b: 0x0008,
         c: ADDRESS,
-        rule: NO_RULE,
+        rule: None,
         immediate: 0,
     },
     // A 6; B 9; C a RAM address
@@ -144,7 +144,7 @@ const ROWS: [Row; 27] = [
         a: 0x0040,
         b: 0x0200,
         c: ADDRESS,
-        rule: NO_RULE,
+        rule: None,
         immediate: 0,
     },
     // A 8, 10, 11; B 7, 9; C a RAM address
@@ -155,7 +155,7 @@ const ROWS: [Row; 27] = [
         a: 0x0D00,
         b: 0x0280,
         c: ADDRESS,
-        rule: NO_RULE,
+        rule: None,
         immediate: 0,
     },
     // A 8, 10, 11; B 0, 2; C a RAM address; I with A 11
@@ -166,7 +166,7 @@ const ROWS: [Row; 27] = [
         a: 0x0D00,
         b: 0x0005,
         c: ADDRESS,
-        rule: NO_RULE,
+        rule: None,
         immediate: 0x00000800,
     },
     // A 8, 10, 11; B 3, 4, 6; C a RAM address; I with A 11
@@ -188,7 +188,7 @@ const ROWS: [Row; 27] = [
         a: 0x0080,
         b: 0x0400,
         c: ADDRESS,
-        rule: NO_RULE,
+        rule: None,
         immediate: 0,
     },
     // A 12 to 15; B 4, 6 to 10; C 0, 1, 4, 5; I with B 7
@@ -199,7 +199,7 @@ const ROWS: [Row; 27] = [
         a: 0xF000,
         b: 0x07D0,
         c: 0x00000033,
-        rule: NO_RULE,
+        rule: None,
         immediate: 0x00800000,
     },
     // A 1, 2, 5; B 0 to 11; C 0, 1, 4, 5; I with A 2, 5
@@ -210,7 +210,7 @@ const ROWS: [Row; 27] = [
         a: 0x0026,
         b: 0x0FFF,
         c: 0x00000033,
-        rule: NO_RULE,
+        rule: None,
         immediate: 0x00000024,
     },
     // A 6, 7; B 0 to 2, 4 to 8; C 0, 1
@@ -221,7 +221,7 @@ const ROWS: [Row; 27] = [
         a: 0x00C0,
         b: 0x01F7,
         c: 0x00000003,
-        rule: NO_RULE,
+        rule: None,
         immediate: 0,
     },
     // A n; B 13 to 15; C a RAM address
@@ -254,7 +254,7 @@ const ROWS: [Row; 27] = [
         a: N,
         b: 0x1000,
         c: 0x33000000,
-        rule: NO_RULE,
+        rule: None,
         immediate: 0,
     },
     // A 8, 10, 11; B 4, 6; C 0, 1; I with A 11
@@ -276,7 +276,7 @@ const ROWS: [Row; 27] = [
         a: 0x0080,
         b: 0x0400,
         c: 0x00000003,
-        rule: NO_RULE,
+        rule: None,
         immediate: 0,
     },
     // A 11; B 10; C 3, 5, 6, 9, 10
@@ -287,7 +287,7 @@ const ROWS: [Row; 27] = [
         a: 0x0800,
         b: 0x0400,
         c: 0x00000668,
-        rule: NO_RULE,
+        rule: None,
         immediate: 0,
     },
     // A 10; B 10; C 3, 5, 6, 9, 10
@@ -298,7 +298,7 @@ const ROWS: [Row; 27] = [
         a: 0x0400,
         b: 0x0400,
         c: 0x00000668,
-        rule: NO_RULE,
+        rule: None,
         immediate: 0,
     },
     // A 9; B 10; C 0, 2, 4, 6, 8, 10, 12, 14, 16, 18, 20, 22
@@ -309,7 +309,7 @@ const ROWS: [Row; 27] = [
         a: 0x0200,
         b: 0x0400,
         c: 0x00555555,
-        rule: NO_RULE,
+        rule: None,
         immediate: 0,
     },
     // A 8; B 10; C 0
@@ -320,100 +320,25 @@ const ROWS: [Row; 27] = [
         a: 0x0100,
         b: 0x0400,
         c: 0x00000001,
-        rule: NO_RULE,
+        rule: None,
         immediate: 0,
     },
 ];
 
-// The row of a number.
-pub(crate) fn row_at(number: usize) -> Row
-    requires { number < 27 }
-    ensures { result ≡ row_at number }
+// The row that takes a word's fields, if any: by the table itself, row by row.
+pub(crate) fn row_taking(fields: &Fields) -> Option<Row>
+    ensures { RowTaking fields.now result }
 {
-    ROWS[number]
+    ROWS.iter().find(|row| row.takes_fields(fields)).copied()
 }
 
-// The column of families, as a match: a constant array is copied at each use, and a run looks up a word in every cycle. Of a number below
-// `number::NONE` the contract says that it is the family's own.
-pub(crate) fn family_at(number: u8) -> Family
-    ensures { Along eqb no_row (λ k. k) number (number_of result) }
-{
-    match number {
-        number::TOR1 => Family::Tor1,
-        number::ROTR1 => Family::Rotr1,
-        number::ROTR2 => Family::Rotr2,
-        number::ROTC => Family::Rotc,
-        number::ROTM => Family::Rotm,
-        number::SOR => Family::Sor,
-        number::BOR2 => Family::Bor2,
-        number::TOR2 => Family::Tor2,
-        number::SHFTR => Family::Shftr,
-        number::CRCF => Family::Crcf,
-        number::CRCR => Family::Crcr,
-        number::PRT1 => Family::Prt1,
-        number::PRT2 => Family::Prt2,
-        number::PRT3 => Family::Prt3,
-        number::SVSTR => Family::Svstr,
-        number::SONR => Family::Sonr,
-        number::TONR => Family::Tonr,
-        number::SHFTNR => Family::Shftnr,
-        number::BOR1 => Family::Bor1,
-        number::BONR => Family::Bonr,
-        number::ROTNR => Family::Rotnr,
-        number::PRTNR => Family::Prtnr,
-        number::SVSTNR => Family::Svstnr,
-        number::SETST => Family::Setst,
-        number::RSTST => Family::Rstst,
-        number::TEST => Family::Test,
-        _ => Family::Noop,
-    }
-}
-
-// The column of rules, likewise.
-pub(crate) fn rule_at(number: u8) -> u8
-    ensures { Along eqb no_row (λ k. (row_at k).rule) number result }
-{
-    match number {
-        number::BOR2 => BIT_IN_MODE,
-        number::PRT3 => ONE_ACC,
-        number::BOR1 => BIT_IN_MODE,
-        number::BONR => BIT_IN_MODE,
-        number::PRTNR => ONE_ACC,
-        _ => NO_RULE,
-    }
-}
-
-// The number of a family's row.
-pub(crate) fn number_of(family: Family) -> u8
-    ensures { result ≡ number_of family }
+// The column of rules, as a match: a constant array is copied at each use, and a run looks up a word in every cycle.
+pub(crate) fn rule_of(family: Family) -> Option<Refusal>
+    ensures { result ≡ (row_at (number_of family)).rule }
 {
     match family {
-        Family::Tor1 => number::TOR1,
-        Family::Rotr1 => number::ROTR1,
-        Family::Rotr2 => number::ROTR2,
-        Family::Rotc => number::ROTC,
-        Family::Rotm => number::ROTM,
-        Family::Sor => number::SOR,
-        Family::Bor2 => number::BOR2,
-        Family::Tor2 => number::TOR2,
-        Family::Shftr => number::SHFTR,
-        Family::Crcf => number::CRCF,
-        Family::Crcr => number::CRCR,
-        Family::Prt1 => number::PRT1,
-        Family::Prt2 => number::PRT2,
-        Family::Prt3 => number::PRT3,
-        Family::Svstr => number::SVSTR,
-        Family::Sonr => number::SONR,
-        Family::Tonr => number::TONR,
-        Family::Shftnr => number::SHFTNR,
-        Family::Bor1 => number::BOR1,
-        Family::Bonr => number::BONR,
-        Family::Rotnr => number::ROTNR,
-        Family::Prtnr => number::PRTNR,
-        Family::Svstnr => number::SVSTNR,
-        Family::Setst => number::SETST,
-        Family::Rstst => number::RSTST,
-        Family::Test => number::TEST,
-        Family::Noop => number::NOOP,
+        Family::Bor2 | Family::Bor1 | Family::Bonr => BIT_IN_MODE,
+        Family::Prt3 | Family::Prtnr => ONE_ACC,
+        _ => None,
     }
 }

@@ -24,11 +24,13 @@ use Rattle.run.specs.declared.Ending.{Ending}
 use Rattle.run.specs.declared.Ending.TheVariants.{Done, Stopped, Refused}
 use Rattle.lines.specs.declared.Program.{Program}
 use Rattle.lines.specs.declared.Program.TheVariants.{RunTrace, PackTrace, UnpackTrace, ListTrace, ReadList}
+use Rattle.lines.specs.declared.remarks.Subject.{Subject}
+use Rattle.lines.specs.declared.remarks.Subject.TheVariants.{Whole, Block, Word, Pins}
 use Rattle.lines.specs.declared.Remark.{Remark}
 use Rattle.lines.specs.declared.Remark.TheVariants.{NoInput, NoOutput, Waits, Marked, Unnamed, Refusal, Unread, LongLine}
 use Rattle.lines.specs.Lines.{line_of, cycle_line, state_line, register_line, word_refused_line, refused_line, last_line}
 use Rattle.lines.specs.Words.{after_word, words_text, words_line, expected_text, fault_line}
-use Rattle.lines.specs.Remarks.{name_of, Subject, whole, block, word, pins, Meaning, meanings, row_for, meaning_of, place_text, refusal_text, remark_text, remark_line}
+use Rattle.lines.specs.Remarks.{name_of, Meaning, meanings, row_for, meaning_of, place_text, refusal_text, remark_text, remark_line}
 use Rattle.lines.proofs.Spelled.{length_trimmed}
 
 -- a number has at most 20 digits, and one below 10,000 at most four
@@ -135,10 +137,10 @@ why_le k = row_le k meanings (tt, (tt, (tt, (tt, (tt, (tt, (tt, (tt, (tt, (tt, (
 
 place_le : (s : Subject) (i w p : ℕ) → length (place_text s i w p) ≤ 45
 unfolding hex
-place_le whole i w p = omega arith
-place_le block i w p = rw (length-append (decimal i ++ 58 ∷ []), length-append (decimal i)) (omega (arith, decimal_le i))
-place_le word i w p = rw (length-append (decimal i ++ 58 ∷ []), length-append (decimal i)) (omega (arith, decimal_le i))
-place_le pins i w p = rw (length-append (decimal i ++ 58 ∷ []), length-append (decimal i)) (omega (arith, decimal_le i))
+place_le Whole i w p = omega arith
+place_le Block i w p = rw (length-append (decimal i ++ 58 ∷ []), length-append (decimal i)) (omega (arith, decimal_le i))
+place_le Word i w p = rw (length-append (decimal i ++ 58 ∷ []), length-append (decimal i)) (omega (arith, decimal_le i))
+place_le Pins i w p = rw (length-append (decimal i ++ 58 ∷ []), length-append (decimal i)) (omega (arith, decimal_le i))
 
 refusal_le : (k i w p : ℕ) → length (refusal_text k i w p) ≤ 122
 refusal_le k i w p =

@@ -1,6 +1,8 @@
 -- The text of cycle words is read as those words.
 -- The law: `text_read`.
 use mathlib.Core.Path.{◌≡◌, sym, ap, ◌∙◌}
+use mathlib.Core.Bool.{Bool, true, false}
+use Rattle.std.specs.Prelude.{Option, Some, None}
 use mathlib.Core.List.{List, [], ◌∷◌, ◌++◌, append_assoc}
 use Prim.Native.Nat.{ℕ, zero, suc, ◌+◌, ◌-◌, ◌*◌, ◌/◌, ◌≤◌, ◌<◌}
 use native.Mathlib.Omega.{arith}
@@ -12,7 +14,6 @@ use Rattle.choice.specs.Text.{newline, blank, digit, hex}
 use Rattle.choice.proofs.Spans.{holds, below}
 use Rattle.choice.proofs.Picks.{picked}
 use Rattle.text.specs.declared.Place.TheVariants.{Between, After}
-use Rattle.text.specs.declared.Stop.TheVariants.{TextEnd}
 use Rattle.text.specs.Bytes.{digit_value}
 use Rattle.text.specs.Lines.{words_per_line}
 use Rattle.text.specs.Taking.{start_of, one_more, stops_at, take_from, reader}
@@ -20,9 +21,18 @@ use Rattle.text.proofs.Reading.{word_read, blank_read, feed_read}
 use Rattle.lines.specs.Words.{words_text, words_line, text_from, text_of, AllWords, all_read, lines_after}
 
 -- a digit is read as what it stands for
-digit_read : (d : ℕ) → d < 16 → digit_value (digit d) ≡ d
-unfolding digit_value
-digit_read d h = eqb-true (digit_value (digit d)) d (holds _ (below (λ (k : ℕ). eqb (digit_value (digit k)) k) 16 d tt h))
+worth : Option ℕ → ℕ → Bool
+worth (Some v) k = eqb v k
+worth None k = false
+
+worth_it : (found : Option ℕ) (k : ℕ) → worth found k ≡ true → found ≡ Some k
+unfolding worth
+worth_it (Some v) k e = ap Some (eqb-true v k e)
+worth_it None k e = absurd (cc)
+
+digit_read : (d : ℕ) → d < 16 → digit_value (digit d) ≡ Some d
+unfolding digit_value worth
+digit_read d h = worth_it (digit_value (digit d)) d (holds _ (below (λ (k : ℕ). worth (digit_value (digit k)) k) 16 d tt h))
 
 hex_read : (x : ℕ) → x < 65536 → (i l c w k f : ℕ) (rest words : List ℕ) → w < words_per_line → k < length words
     → take_from i (reader l c w Between k f) (hex 4 x ++ rest) words
@@ -78,7 +88,7 @@ line_here all i h = picked (ltb i (length all / words_per_line)) (words_text (ta
 -- the lines of some cycles, one after another
 lines_read : (n i : ℕ) (all : List ℕ) → AllWords all → (j l f : ℕ) (words : List ℕ) → words_per_line * (i + n) ≡ length all → length all ≤ length words
     → take_from j (reader l 1 0 Between (words_per_line * i) f) (text_from all i n) words
-    ≡ stops_at (reader (lines_after n l) 1 0 Between (length all) f) (j + 5 * words_per_line * n) TextEnd (sets words (words_per_line * i) (drop (words_per_line * i) all))
+    ≡ stops_at (reader (lines_after n l) 1 0 Between (length all) f) (j + 5 * words_per_line * n) None (sets words (words_per_line * i) (drop (words_per_line * i) all))
 unfolding take_from
 lines_read zero i all a j l f words e h =
     let over : length all ≤ words_per_line * i = omega arith in

@@ -1,7 +1,7 @@
 -- A trace as text: one line of hex words per cycle, and what is said of a line that cannot be read. Document 01 says nothing of traces as
 -- text: the form is ours (docs/DECISIONS.md).
 use Prim.{Unit}
-use Rattle.std.specs.Prelude.{ℕ, zero, suc, ◌*◌, ◌/◌, ◌<◌, List, [], ◌∷◌, ◌++◌, ltb, length, take, drop}
+use Rattle.std.specs.Prelude.{ℕ, zero, suc, ◌*◌, ◌/◌, ◌<◌, List, [], ◌∷◌, ◌++◌, ltb, length, take, drop, None}
 use Rattle.choice.specs.Pick.{pick}
 use Rattle.choice.specs.Text.{newline, blank, hex, decimal}
 use Rattle.text.specs.declared.Expected.{Expected}
@@ -9,7 +9,6 @@ use Rattle.text.specs.declared.Expected.TheVariants.{Digit, Blank, Word, LineEnd
 use Rattle.text.specs.declared.Fault.{Fault}
 use Rattle.text.specs.Lines.{words_per_line}
 use Rattle.text.specs.declared.Place.TheVariants.{Between}
-use Rattle.text.specs.declared.Stop.TheVariants.{TextEnd}
 use Rattle.text.specs.Taking.{Took, stops_at, reader, one_more}
 
 -- what stands after a word, with these words still to come
@@ -65,4 +64,4 @@ lines_after (suc n) l = lines_after n (one_more l)
 -- for a law: what comes of all of it, from the start of a text: every word found, in its place, and no fault
 abbrev pub all_read : List ℕ → List ℕ → Took
 all_read all words =
-    stops_at (reader (lines_after (length all / words_per_line) 1) 1 0 Between (length all) 0) (5 * words_per_line * (length all / words_per_line)) TextEnd (all ++ drop (length all) words)
+    stops_at (reader (lines_after (length all / words_per_line) 1) 1 0 Between (length all) 0) (5 * words_per_line * (length all / words_per_line)) None (all ++ drop (length all) words)

@@ -4,13 +4,15 @@ ghost use Rattle.run.specs.Splitting.{words_per_report};
 ghost use Rattle.lines.specs.Answers.{Makes};
 ghost use Rattle.lines.specs.Pages.{report_line, page_of};
 
-use crate::Line;
 use run::{Ran, WORDS_PER_REPORT};
 
 // The lines of a page besides those of its cycles: the state, the registers and the end.
 pub const LINES_BESIDE_CYCLES: usize = REGISTERS + 2;
 
 pub const REGISTERS: usize = 32;
+
+// The place of the end among the lines after those of the cycles.
+const LAST_LINE: usize = REGISTERS + 1;
 
 // The most bytes of a line: of one of the first 10,000 cycles, of the state, of a register, and of the end.
 pub const CYCLE_BYTES: usize = 19;
@@ -29,11 +31,13 @@ fn report_word(reports: &[u16], index: usize, word: usize) -> u16
     if reports.len() <= index {
         return 0;
     }
-    let at = WORDS_PER_REPORT * index + word;
-    if at < reports.len() { reports[at] } else { 0 }
+    reports
+        .get(WORDS_PER_REPORT * index + word)
+        .copied()
+        .unwrap_or(0)
 }
 
-fn report_line(reports: &[u16], index: usize, out: &mut [u8]) -> Line
+fn report_line(reports: &[u16], index: usize, out: &mut [u8]) -> Option<usize>
     ensures { Makes (report_line reports.now index) result out.old out.new }
 {
     let y = report_word(reports, index, 0);
@@ -44,25 +48,20 @@ fn report_line(reports: &[u16], index: usize, out: &mut [u8]) -> Line
 }
 
 // Line `index` of the page of a run: its accepted cycles, the state, the registers, and the end. Past the end lines are empty.
-pub fn page_line(ran: Ran, reports: &[u16], index: usize, out: &mut [u8]) -> Line
+pub fn page_line(ran: Ran, reports: &[u16], index: usize, out: &mut [u8]) -> Option<usize>
     ensures { Makes (get_or (page_of ran reports.now) index []) result out.old out.new }
 {
-    let machine = ran.machine;
-    let registers = machine.registers;
     if index < ran.accepted {
         return report_line(reports, index, out);
     }
-    let after = index - ran.accepted;
-    if after == 0 {
-        return crate::state_line(registers, out);
+    let registers = ran.machine.registers;
+    match index - ran.accepted {
+        0 => crate::state_line(registers, out),
+        after @ 1..=REGISTERS => {
+            let number = after - 1;
+            crate::register_line(number as u64, registers.ram[number], out)
+        }
+        LAST_LINE => crate::last_line(ran.ending, ran.accepted as u64, out),
+        _ => Some(0),
     }
-    if after <= REGISTERS {
-        let ram = registers.ram;
-        return crate::register_line((after - 1) as u64, ram[after - 1], out);
-    }
-    if after == REGISTERS + 1 {
-        let ending = ran.ending;
-        return crate::last_line(ending, ran.accepted as u64, out);
-    }
-    Line::Made(0)
 }

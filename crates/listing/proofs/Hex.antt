@@ -2,34 +2,24 @@
 -- The laws, in this order: `data_print_read`, `data_read_print`.
 use mathlib.Core.Path.{◌≡◌, refl, sym, ap, ◌∙◌}
 use mathlib.Core.Bool.{Bool, true, false}
-use mathlib.Core.List.{List, [], ◌∷◌, append-nil}
-use mathlib.Core.Option
+use mathlib.Core.List.{List, [], ◌∷◌, append-nil, map}
 use mathlib.Core.Option.{Option, none, some, some-injective, some-ne-none}
-use Prim.Native.Nat.{ℕ, suc, ◌+◌, ◌-◌, ◌*◌, ◌/◌, ◌%◌, ◌<◌, ◌≤◌}
+use Prim.Native.Nat.{ℕ, ◌+◌, ◌-◌, ◌*◌, ◌/◌, ◌%◌, ◌<◌}
 use native.Mathlib.Omega.{arith}
 use lib.Dec.{T, eqb, ltb, eqb→eq, ltb→lt}
-use lib.ListN.{length, take, drop, get_or, length-take, length-drop}
-use lib.Seq.{drop-cons, sets}
+use lib.ListN.{get_or, length}
 use borrow.Author.Tests.{ne_eqb, lt-ltb, le-ltb, ltb-true, ltb-false}
 use Rattle.choice.specs.Pick.{pick}
-use Rattle.choice.specs.Tells.{accepted, refused, accepted_whole, refused_at}
+use Rattle.choice.specs.Tells.{accepted_whole}
 use Rattle.choice.specs.Text.{digit, hex}
-use Rattle.choice.proofs.Spans.{span, below, never, both}
+use Rattle.choice.proofs.Spans.{span, below}
 use Rattle.choice.proofs.Tells.{whole_one, whole_refused}
 use Rattle.listing.specs.Items.{Item, items_of, normal, joined}
 use Rattle.listing.specs.Lines.{value_then, ended, past_of}
 use Rattle.listing.specs.Data.{data_line, no_digit, digit_of, with_digit, data_in, data_from, data_of}
-use Rattle.listing.specs.Answers.{outcome, data_into}
-use Rattle.listing.specs.Keys.{key_of, text_of_key}
-use Rattle.listing.specs.Reading.{column_of, first_text, after}
-use Rattle.listing.proofs.Bytes.{proper, key_back, text_of_lem}
-use Rattle.listing.proofs.Prints.{fill_short, fill_room}
 use Rattle.listing.proofs.Splits.{sound, texts, joined_items, normal_items}
 
 -- digits there and back
-proper_test : T (span 0 16 (λ d. elim (ltb 0 (digit d)) [ true ↦ ltb (digit d) 256 | false ↦ false ]))
-proper_test = tt
-
 back_test : T (span 0 16 (λ d. eqb (digit_of (digit d)) d))
 back_test = tt
 
@@ -61,26 +51,25 @@ byte_back b h = by_test (ltb b 48) (ltb b 58) (ltb b 65) (ltb b 71) refl refl re
 abbrev pub chain : ℕ → ℕ → ℕ → ℕ → Option ℕ
 chain a b c d = with_digit (with_digit (with_digit (with_digit (some 0) a) b) c) d
 
-module _ (a b c d : ℕ) where
-  pub none_a : 16 ≤ a → 0x10000 ≡ Option.get_or (chain a b c d) 0x10000
-  none_a h = rw (le-ltb a 16 h)
+pub all_digits : (a b c d : ℕ) → a < 16 → b < 16 → c < 16 → d < 16 → chain a b c d ≡ some (16 * (16 * (16 * a + b) + c) + d)
+all_digits a b c d ha hb hc hd =
+    let z : 16 * 0 + a ≡ a = omega arith in
+    rw (lt-ltb a 16 ha, lt-ltb b 16 hb, lt-ltb c 16 hc, lt-ltb d 16 hd, z)
 
-  module _ (ha : a < 16) where
-    pub none_b : 16 ≤ b → 0x10000 ≡ Option.get_or (chain a b c d) 0x10000
-    none_b h = rw (lt-ltb a 16 ha, le-ltb b 16 h)
+abbrev DigitAt : List ℕ → ℕ → ℕ → Type 0
+DigitAt t i d = (d ≡ digit_of (get_or t i 0)) × (d < no_digit)
 
-    module _ (hb : b < 16) where
-      pub none_c : 16 ≤ c → 0x10000 ≡ Option.get_or (chain a b c d) 0x10000
-      none_c h = rw (lt-ltb a 16 ha, lt-ltb b 16 hb, le-ltb c 16 h)
-
-      module _ (hc : c < 16) where
-        pub none_d : 16 ≤ d → 0x10000 ≡ Option.get_or (chain a b c d) 0x10000
-        none_d h = rw (lt-ltb a 16 ha, lt-ltb b 16 hb, lt-ltb c 16 hc, le-ltb d 16 h)
-
-        pub all_digits : d < 16 → chain a b c d ≡ some (16 * (16 * (16 * a + b) + c) + d)
-        all_digits hd =
-            let z : 16 * 0 + a ≡ a = omega arith in
-            rw (lt-ltb a 16 ha, lt-ltb b 16 hb, lt-ltb c 16 hc, lt-ltb d 16 hd, z)
+pub four_read : (t : List ℕ) (a b c d : ℕ) → length t ≡ 4 → DigitAt t 0 a → DigitAt t 1 b → DigitAt t 2 c → DigitAt t 3 d
+    → some (256 * (16 * a + b) + (16 * c + d)) ≡ data_in t
+four_read [] a b c d l p q r s = absurd (omega arith)
+four_read (x ∷ []) a b c d l p q r s = absurd (omega arith)
+four_read (x ∷ y ∷ []) a b c d l p q r s = absurd (omega arith)
+four_read (x ∷ y ∷ z ∷ []) a b c d l p q r s = absurd (omega arith)
+four_read (x ∷ y ∷ z ∷ w ∷ []) a b c d l p q r s =
+    let n : 256 * (16 * a + b) + (16 * c + d) ≡ 16 * (16 * (16 * a + b) + c) + d = omega arith in
+    let e : chain a b c d ≡ chain (digit_of x) (digit_of y) (digit_of z) (digit_of w) = rw (p.0, q.0, r.0, s.0) in
+    ap some n ∙ sym (all_digits a b c d p.1 q.1 r.1 s.1) ∙ e
+four_read (x ∷ y ∷ z ∷ w ∷ v ∷ t) a b c d l p q r s = absurd (omega arith)
 
 -- a number with one digit more
 record WithDigit (o : Option ℕ) (d x : ℕ) : Type 0 where
@@ -113,123 +102,6 @@ chain_some a b c d x e =
     let z : 0 ≡ t.before = some-injective 0 t.before t.was in
     record { in_a = t.small; in_b = u.small; in_c = v.small; in_d = w.small; number = omega (arith, w.is, v.is, u.is, t.is, z) }
 
-pub data_small : (t : List ℕ) (x : ℕ) → data_in t ≡ some x → x < 0x10000
-data_small [] x e = absurd (some-ne-none x (sym e))
-data_small (a ∷ []) x e = absurd (some-ne-none x (sym e))
-data_small (a ∷ b ∷ []) x e = absurd (some-ne-none x (sym e))
-data_small (a ∷ b ∷ c ∷ []) x e = absurd (some-ne-none x (sym e))
-data_small (a ∷ b ∷ c ∷ d ∷ []) x e =
-    let f = chain_some (digit_of a) (digit_of b) (digit_of c) (digit_of d) x e in
-    omega (arith, f.in_a, f.in_b, f.in_c, f.in_d, f.number)
-data_small (a ∷ b ∷ c ∷ d ∷ e' ∷ t) x e = absurd (some-ne-none x (sym e))
-
--- the four bytes at an index
-pub four : (line : List ℕ) (s : ℕ) → s + 4 ≤ length line
-    → take 4 (drop s line) ≡ get_or line s 0 ∷ get_or line (s + 1) 0 ∷ get_or line (s + 2) 0 ∷ get_or line (s + 3) 0 ∷ []
-four line s h =
-    let a : s + 1 ≡ suc s = omega arith in
-    let b : s + 2 ≡ suc (suc s) = omega arith in
-    let c : s + 3 ≡ suc (suc (suc s)) = omega arith in
-    rw (a, b, c)
-    (ap (take 4)
-    (drop-cons line s 0 (omega arith)
-    ∙ ap (λ (l : List ℕ). get_or line s 0 ∷ l)
-    (drop-cons line (suc s) 0 (omega arith)
-    ∙ ap (λ (l : List ℕ). get_or line (suc s) 0 ∷ l)
-    (drop-cons line (suc (suc s)) 0 (omega arith)
-    ∙ ap (λ (l : List ℕ). get_or line (suc (suc s)) 0 ∷ l) (drop-cons line (suc (suc (suc s))) 0 (omega arith))))))
-
--- an item of another length is no data
-not_four : (t : List ℕ) → (length t ≡ 4 → ⊥) → data_in t ≡ none
-not_four [] h = refl
-not_four (a ∷ []) h = refl
-not_four (a ∷ b ∷ []) h = refl
-not_four (a ∷ b ∷ c ∷ []) h = refl
-not_four (a ∷ b ∷ c ∷ d ∷ []) h = absurd (h refl)
-not_four (a ∷ b ∷ c ∷ d ∷ e ∷ t) h = refl
-
--- the first item is no data, or it is
-no_data : (past column : ℕ) (t : List ℕ) (xs : List Item) → column ≡ column_of past xs → first_text xs ≡ t → data_in t ≡ none → refused_at 21 column ≡ data_from past xs
-no_data past column t [] ec et ed = ap (refused_at 21) ec
-no_data past column t (x ∷ xs) ec et ed =
-    ap (refused_at 21) ec ∙ sym (ap (λ (o : Option ℕ). value_then 21 x.column xs o (λ d xs. ended xs (accepted_whole d))) (ap data_in et ∙ ed))
-
-pub some_data : (past : ℕ) (t : List ℕ) (d : ℕ) (xs rest : List Item) → first_text xs ≡ t → data_in t ≡ some d → rest ≡ after xs → ended rest (accepted_whole d) ≡ data_from past xs
-some_data past t d [] rest et ed er = absurd (some-ne-none d (sym ed ∙ sym (ap data_in et)))
-some_data past t d (x ∷ xs) rest et ed er =
-    ap (λ (ys : List Item). ended ys (accepted_whole d)) er
-    ∙ sym (ap (λ (o : Option ℕ). value_then 21 x.column xs o (λ d xs. ended xs (accepted_whole d))) (ap data_in et ∙ ed))
-
--- the ways out of the reader of data
-module _ (line : List ℕ) (s e column : ℕ) (from : s ≤ e) (bound : e ≤ length line) (ec : column ≡ column_of (past_of line) (items_of line))
-    (et : first_text (items_of line) ≡ take (e - s) (drop s line)) where
-  pub other_length : (e - s ≡ 4 → ⊥) → refused_at 21 column ≡ data_of line
-  unfolding data_of
-  other_length h =
-      let l : length (take (e - s) (drop s line)) ≡ e - s = simp (length-take, length-drop) (omega arith) in
-      no_data (past_of line) column (take (e - s) (drop s line)) (items_of line) ec et (not_four (take (e - s) (drop s line)) (λ q. h (sym l ∙ q)))
-
-  module _ (size : e - s ≡ 4) (x : ℕ) (ed : x ≡ Option.get_or (data_in (take 4 (drop s line))) 0x10000) where
-    is_text : first_text (items_of line) ≡ take 4 (drop s line)
-    is_text = et ∙ ap (λ (n : ℕ). take n (drop s line)) size
-
-    small : (o : Option ℕ) → x ≡ Option.get_or o 0x10000 → x < 0x10000 → o ≡ some x
-    small none q h = absurd (omega arith)
-    small (some y) q h = ap some (sym q)
-
-    large : (o : Option ℕ) → x ≡ Option.get_or o 0x10000 → 0x10000 ≤ x → ((y : ℕ) → o ≡ some y → y < 0x10000) → o ≡ none
-    large none q h l = refl
-    large (some y) q h l = absurd (omega (arith, l y refl))
-
-    pub not_digits : 0x10000 ≤ x → refused_at 21 column ≡ data_of line
-    unfolding data_of
-    not_digits h = no_data (past_of line) column _ (items_of line) ec is_text (large _ ed h (data_small (take 4 (drop s line))))
-
-    pub are_digits : x < 0x10000 → (rest : List Item) → rest ≡ after (items_of line) → ended rest (accepted_whole x) ≡ data_of line
-    unfolding data_of
-    are_digits h rest er = some_data (past_of line) _ x (items_of line) rest is_text (small _ ed h) er
-
--- the four bytes at an index, digit by digit
-module _ (line : List ℕ) (s : ℕ) (h : s + 4 ≤ length line) where
-  abbrev x₀ : ℕ
-  x₀ = digit_of (get_or line s 0)
-
-  abbrev x₁ : ℕ
-  x₁ = digit_of (get_or line (s + 1) 0)
-
-  abbrev x₂ : ℕ
-  x₂ = digit_of (get_or line (s + 2) 0)
-
-  abbrev x₃ : ℕ
-  x₃ = digit_of (get_or line (s + 3) 0)
-
-  abbrev Is : ℕ → Type 0
-  Is r = r ≡ Option.get_or (data_in (take 4 (drop s line))) 0x10000
-
-  so : (r : ℕ) → r ≡ Option.get_or (chain x₀ x₁ x₂ x₃) 0x10000 → Is r
-  so r e = e ∙ sym (ap (λ (t : List ℕ). Option.get_or (data_in t) 0x10000) (four line s h))
-
-  module _ (a : ℕ) (ea : a ≡ x₀) where
-    pub at_a : 16 ≤ a → Is 0x10000
-    at_a l = so 0x10000 (none_a x₀ x₁ x₂ x₃ (omega (arith, ea)))
-
-    module _ (la : a < 16) (b : ℕ) (eb : b ≡ x₁) where
-      pub at_b : 16 ≤ b → Is 0x10000
-      at_b l = so 0x10000 (none_b x₀ x₁ x₂ x₃ (omega (arith, ea)) (omega (arith, eb)))
-
-      module _ (lb : b < 16) (c : ℕ) (ec : c ≡ x₂) where
-        pub at_c : 16 ≤ c → Is 0x10000
-        at_c l = so 0x10000 (none_c x₀ x₁ x₂ x₃ (omega (arith, ea)) (omega (arith, eb)) (omega (arith, ec)))
-
-        module _ (lc : c < 16) (d : ℕ) (ed : d ≡ x₃) where
-          pub at_d : 16 ≤ d → Is 0x10000
-          at_d l = so 0x10000 (none_d x₀ x₁ x₂ x₃ (omega (arith, ea)) (omega (arith, eb)) (omega (arith, ec)) (omega (arith, ed)))
-
-          pub at_end : d < 16 → Is (16 * (16 * (16 * a + b) + c) + d)
-          at_end l =
-              let n : 16 * (16 * (16 * a + b) + c) + d ≡ 16 * (16 * (16 * x₀ + x₁) + x₂) + x₃ = omega (arith, ea, eb, ec, ed) in
-              so _ (n ∙ sym (ap (λ (o : Option ℕ). Option.get_or o 0x10000) (all_digits x₀ x₁ x₂ x₃ (omega (arith, ea)) (omega (arith, eb)) (omega (arith, ec)) (omega (arith, ed)))))
-
 -- the digits of a word
 module _ (d : ℕ) where
   abbrev d₀ : ℕ
@@ -251,52 +123,15 @@ module _ (d : ℕ) where
   unfolding hex
   spelt_is = refl
 
-  -- its key, and the text of that key
-  pub spelt_key : digit d₀ + 256 * (digit d₁ + 256 * (digit d₂ + 256 * digit d₃)) ≡ key_of (data_line d)
-  spelt_key = key_four (digit d₀) (digit d₁) (digit d₂) (digit d₃) ∙ ap key_of (sym spelt_is)
-    where
-      key_four : (a b c d : ℕ) → a + 256 * (b + 256 * (c + 256 * d)) ≡ key_of (a ∷ b ∷ c ∷ d ∷ [])
-      key_four a b c d = omega arith
-
-  digit_proper : (x : ℕ) → x < 16 → (0 < digit x) × (digit x < 256)
-  digit_proper x l =
-      let b = both (ltb 0 (digit x)) (ltb (digit x) 256) (below (λ d. elim (ltb 0 (digit d)) [ true ↦ ltb (digit d) 256 | false ↦ false ]) 16 x proper_test l) in
-      (ltb→lt 0 (digit x) b.0, ltb→lt (digit x) 256 b.1)
-
-  spelt_proper : T (proper spelt)
-  spelt_proper =
-      let t₃ : T (proper (digit d₃ ∷ [])) = one (digit d₃) [] (digit_proper d₃ (omega arith)) tt in
-      let t₂ : T (proper (digit d₂ ∷ digit d₃ ∷ [])) = one (digit d₂) (digit d₃ ∷ []) (digit_proper d₂ (omega arith)) t₃ in
-      let t₁ : T (proper (digit d₁ ∷ digit d₂ ∷ digit d₃ ∷ [])) = one (digit d₁) (digit d₂ ∷ digit d₃ ∷ []) (digit_proper d₁ (omega arith)) t₂ in
-      one (digit d₀) (digit d₁ ∷ digit d₂ ∷ digit d₃ ∷ []) (digit_proper d₀ (omega arith)) t₁
-    where
-      one : (b : ℕ) (bs : List ℕ) → (0 < b) × (b < 256) → T (proper bs) → T (proper (b ∷ bs))
-      one b bs h t = by_test (ltb 0 b) (ltb b 256) (lt-ltb 0 b h.0) (lt-ltb b 256 h.1)
-        where
-          by_test : (p q : Bool) → p ≡ true → q ≡ true → T (elim p [ true ↦ elim q [ true ↦ proper bs | false ↦ false ] | false ↦ false ])
-          by_test true true ep eq = t
-          by_test true false ep eq = absurd (never eq)
-          by_test false q ep eq = absurd (never ep)
-
-  pub key_data : text_of_key (key_of (data_line d)) ≡ data_line d
-  key_data =
-      ap (λ (t : List ℕ). text_of_key (key_of t)) spelt_is
-      ∙ text_of_lem (key_of spelt)
-      ∙ key_back 8 spelt spelt_proper (omega arith)
-      ∙ sym spelt_is
+  -- the digits as the code takes them
+  pub digits_are : map (λ h. digit (h % 16)) (d / 0x1000 ∷ d / 0x100 ∷ d / 0x10 ∷ d ∷ []) ≡ data_line d
+  digits_are =
+      let a : d / 0x1000 ≡ d / 16 / 16 / 16 = omega arith in
+      let b : d / 0x100 ≡ d / 16 / 16 = omega arith in
+      rw (spelt_is, a, b)
 
   pub data_long : length (data_line d) ≡ 4
   data_long = ap length spelt_is
-
-  -- the ways out of the call
-  module _ (before : List ℕ) where
-    pub data_short : length before < 4 → outcome (refused 3) before ≡ data_into d before
-    unfolding data_into
-    data_short l = fill_short (data_line d) before (omega (arith, data_long))
-
-    pub data_filled : (after : List ℕ) → 4 ≤ length before → after ≡ sets before 0 (data_line d) → outcome (accepted 4) after ≡ data_into d before
-    unfolding data_into
-    data_filled after l e = fill_room (data_line d) before 4 after (sym data_long) l e
 
 module _ (d : ℕ) (h : d < 0x10000) where
   spelt_data : data_in (spelt d) ≡ some d

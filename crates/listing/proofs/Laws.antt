@@ -18,9 +18,9 @@ use Rattle.isa.specs.Fields.{mode_of, mark_for}
 use Rattle.isa.specs.Sets.{has}
 use Rattle.isa.specs.Table.{row_at, no_row, number_of}
 use Rattle.isa.specs.Words.{decode_of, encode_of, named_by, Answered}
-use Rattle.isa.proofs.Families.{own_row, own_number, narrow, mark_small}
+use Rattle.isa.proofs.Families.{own_row, own_number, narrow, mark_small, mode_back, mark_back}
 use Rattle.isa.proofs.Takes.{taken, small}
-use Rattle.isa.proofs.Laws.{mode_back, mark_back, encode_decode, decode_encode, encode_takes, word_answered}
+use Rattle.isa.proofs.Laws.{encode_decode, decode_encode, encode_takes, word_answered}
 use Rattle.listing.specs.Places.{at_family, at_mode, form_of}
 use Rattle.listing.specs.Items.{joined, Item, items_of, normal}
 use Rattle.listing.specs.Lines.{text_of, field_texts, texts_by, texts_of, line_by, line_of, expect, field, ended, encoded, instruction, fields_of, word_from, word_of, past_of, Writes}

@@ -9,6 +9,7 @@ use native.Mathlib.Omega.{arith}
 use lib.Dec.{T, eqb, ltb, leb, ltb→lt, leb→le}
 use borrow.Author.Tests.{eqb-true, eqb-false, leb-false}
 use lib.ListN.{length, length-append}
+use Rattle.std.specs.Prelude.{Result, Ok, Err}
 use Rattle.choice.specs.Pick.{pick}
 use Rattle.choice.specs.Tells.{accepted, refused}
 use Rattle.choice.proofs.Spans.{span, below}
@@ -25,8 +26,10 @@ use Rattle.isa.proofs.Takes.{taken, small}
 use Rattle.isa.proofs.Values.{within}
 use Rattle.isa.proofs.Found.{row_belongs}
 use Rattle.isa.proofs.Laws.{encode_decode, encode_takes, word_answered}
-use Rattle.listing.specs.declared.Printed.{Printed}
-use Rattle.listing.specs.declared.Read.{Read}
+use Rattle.refusals.specs.declared.Refusal.{Refusal}
+use Rattle.refusals.specs.declared.Refused.{Refused}
+use Rattle.refusals.specs.Numbers.{number_of as refusal_number}
+use Rattle.refusals.proofs.Laws.{number_of_one}
 use Rattle.listing.specs.Places.{Place, written, at_family, at_mode, form_of}
 use Rattle.listing.specs.Items.{after_blanks, joined}
 use Rattle.listing.specs.Lines.{text_of, field_texts, texts_by, texts_of, line_by, line_of, word_of}
@@ -36,22 +39,34 @@ use Rattle.listing.proofs.Prints.{after_append}
 use Rattle.listing.proofs.Tables.{most_values}
 use Rattle.listing.proofs.Laws.{print_read, half}
 
+-- what the two calls that print answer, and the two that read
+abbrev Printed : Type 0
+Printed = Result ℕ Refusal
+
+abbrev Read : Type 0
+Read = Result ℕ Refused
+
 printed_one : (r s : Printed) → printed_tells r ≡ printed_tells s → r ≡ s
-printed_one (Printed.Filled x) (Printed.Filled y) e = ap Printed.Filled (accepted_one x y e)
-printed_one (Printed.Filled x) (Printed.Refused k) e = absurd (accepted_refused x k e)
-printed_one (Printed.Refused k) (Printed.Filled x) e = absurd (accepted_refused x k (sym e))
-printed_one (Printed.Refused j) (Printed.Refused k) e = ap Printed.Refused (refused_one {A = ℕ} j k e)
+printed_one (Ok x) (Ok y) e = ap Ok (accepted_one x y e)
+printed_one (Ok x) (Err k) e = absurd (accepted_refused x (refusal_number k) e)
+printed_one (Err k) (Ok x) e = absurd (accepted_refused x (refusal_number k) (sym e))
+printed_one (Err j) (Err k) e = ap Err (number_of_one j k (refused_one {A = ℕ} (refusal_number j) (refusal_number k) e))
 
 pub line_of_unique : (w : ℕ) (before : List ℕ) (r s : Printed) (x y : List ℕ) → outcome (printed_tells r) x ≡ print_into w before → outcome (printed_tells s) y ≡ print_into w before → (r ≡ s) × (x ≡ y)
 line_of_unique w before r s x y p q =
     let e = p ∙ sym q in
     (printed_one r s (ap (λ (o : Outcome). o.told) e), ap (λ (o : Outcome). o.bytes) e)
 
+refused_same : (j k : Refusal) (a b : ℕ) → j ≡ k → a ≡ b → ◌≡◌ {A = Refused} (record { refusal = j; index = a }) (record { refusal = k; index = b })
+refused_same j k a b p q = cc
+
 read_one : (r s : Read) → read_tells r ≡ read_tells s → r ≡ s
-read_one (Read.Word x) (Read.Word y) e = ap Read.Word (whole_one x y e)
-read_one (Read.Word x) (Read.Refused k i) e = absurd (whole_refused x k i e)
-read_one (Read.Refused k i) (Read.Word x) e = absurd (whole_refused x k i (sym e))
-read_one (Read.Refused j a) (Read.Refused k b) e = let h = refused_at_one {A = ℕ} j k a b e in cc
+read_one (Ok x) (Ok y) e = ap Ok (whole_one x y e)
+read_one (Ok x) (Err k) e = absurd (whole_refused x (refusal_number k.refusal) k.index e)
+read_one (Err k) (Ok x) e = absurd (whole_refused x (refusal_number k.refusal) k.index (sym e))
+read_one (Err j) (Err k) e =
+    let h = refused_at_one {A = ℕ} (refusal_number j.refusal) (refusal_number k.refusal) j.index k.index e in
+    ap Err (refused_same j.refusal k.refusal j.index k.index (number_of_one j.refusal k.refusal h.0) h.1)
 
 pub data_line_unique : (d : ℕ) (before : List ℕ) (r s : Printed) (x y : List ℕ) → outcome (printed_tells r) x ≡ data_into d before → outcome (printed_tells s) y ≡ data_into d before → (r ≡ s) × (x ≡ y)
 data_line_unique d before r s x y p q =

@@ -1,13 +1,13 @@
--- What the lists of names have in common, each computed once: the names of one list are distinct, have no blank and fit a key; and a family
+-- What the lists of names have in common, each computed once: the names of one list are distinct, have no blank and seven bytes at most, none of them 0; and a family
 -- writes just the values that its row has.
 -- The laws, in this order: `family_good`, `mode_good`, `good_a`, `good_b`, `good_c`, `writes_a`, `writes_b`, `writes_c`.
 use mathlib.Core.Path.{◌≡◌, refl, sym, ap, ◌∙◌, subst}
 use mathlib.Core.Bool.{Bool, true, false, not}
 use mathlib.Core.List.{List, [], ◌∷◌}
 use mathlib.Core.Option.{Option, none, some, some-injective, some-ne-none}
-use Prim.Native.Nat.{ℕ, ◌^◌, ◌<◌, ◌≤◌}
+use Prim.Native.Nat.{ℕ, ◌^◌, ◌<◌}
 use native.Mathlib.Omega.{arith}
-use lib.Dec.{T, eqb, ltb, leb, eqb→eq, ltb→lt, leb→le}
+use lib.Dec.{T, eqb, ltb, leb, eqb→eq, ltb→lt}
 use lib.ListN.{length}
 use borrow.Author.Tests.{eqb-true, lt-ltb, ltb-true}
 use Rattle.choice.specs.Along.{same}
@@ -18,8 +18,6 @@ use Rattle.isa.specs.Table.{row_at, no_row}
 use Rattle.listing.specs.Names.{Name}
 use Rattle.listing.specs.Places.{Place, written, at_family, at_mode, form_of, same_text, text_in, value_in}
 use Rattle.listing.specs.Lines.{text_of, only_of, Writes, shown, left}
-use Rattle.listing.specs.Keys.{key_of, key_bytes, text_of_key, key_in}
-use Rattle.listing.proofs.Bytes.{proper, key_back, text_of_lem}
 use Rattle.listing.proofs.Splits.{sound}
 use Rattle.listing.specs.Items.{full}
 
@@ -35,9 +33,14 @@ abbrev found : Option ℕ → ℕ → Bool
 found none v = false
 found (some k) v = eqb k v
 
--- a name fits a key
-abbrev pub fits : Name → Bool
-fits x = elim (proper x.text) [ true ↦ elim (leb (length x.text) 7) [ true ↦ ltb (key_of x.text) 0x100000000000000 | false ↦ false ] | false ↦ false ]
+-- the bytes of a text are 1 to 255
+abbrev proper : List ℕ → Bool
+proper [] = true
+proper (b ∷ bs) = elim (ltb 0 b) [ true ↦ elim (ltb b 256) [ true ↦ proper bs | false ↦ false ] | false ↦ false ]
+
+-- a name has such bytes, seven at most
+abbrev fits : Name → Bool
+fits x = elim (proper x.text) [ true ↦ leb (length x.text) 7 | false ↦ false ]
 
 -- a name is an item, its value has no other name, and no other value has it
 abbrev distinct : List Name → Name → Bool
@@ -136,9 +139,6 @@ found_is (some k) v t = ap some (eqb→eq k v t)
 
 -- what is asked of a name, one by one
 module _ (xs : List Name) (x : Name) (t : T (sane xs x)) where
-  sane_fits : T (fits x)
-  sane_fits = (both (fits x) _ t).0
-
   sane_rest : T (elim (ltb x.value most_values) [ true ↦ distinct xs x | false ↦ false ])
   sane_rest = (both (fits x) _ t).1
 
@@ -160,31 +160,9 @@ module _ (xs : List Name) (x : Name) (t : T (sane xs x)) where
   sane_value : value_in xs x.text ≡ some x.value
   sane_value = found_is (value_in xs x.text) x.value (both (same_text (text_in xs x.value) x.text) _ sane_pair).1
 
-pub fits_proper : (x : Name) → T (fits x) → T (proper x.text)
-fits_proper x t = (both (proper x.text) _ t).0
-
-pub fits_short : (x : Name) → T (fits x) → length x.text ≤ 7
-fits_short x t = leb→le (length x.text) 7 (both (leb (length x.text) 7) _ (both (proper x.text) _ t).1).0
-
-pub fits_small : (x : Name) → T (fits x) → key_of x.text < 0x100000000000000
-fits_small x t = ltb→lt (key_of x.text) 0x100000000000000 (both (leb (length x.text) 7) _ (both (proper x.text) _ t).1).1
-
 module _ (p : Place) (g : T (good p)) where
   names_sane : T (every (sane p.names) p.names)
   names_sane = (both (every (sane p.names) p.names) _ g).0
-
-  pub all_fit : T (every fits p.names)
-  all_fit = fit_from p.names names_sane
-    where
-      fit_from : (ys : List Name) → T (every (sane p.names) ys) → T (every fits ys)
-      fit_from [] t = tt
-      fit_from (y ∷ ys) t =
-          let b = both (sane p.names y) (every (sane p.names) ys) t in
-          by_test (fits y) (sane_fits p.names y b.0) (fit_from ys b.1)
-        where
-          by_test : (q : Bool) → T q → T (every fits ys) → T (elim q [ true ↦ every fits ys | false ↦ false ])
-          by_test true q r = r
-          by_test false q r = absurd q
 
   -- a value that was found is written so
   pub value_text : (t : List ℕ) (v : ℕ) → value_in p.names t ≡ some v → (text_of p v ≡ t) × (v < most_values)
@@ -194,15 +172,6 @@ module _ (p : Place) (g : T (good p)) where
         ap (text_in p.names) (sym c.value) ∙ sane_text p.names n c.tested ∙ c.text,
         subst (λ (v : ℕ). v < most_values) c.value (sane_small p.names n c.tested),
       )
-
-  pub value_full : (t : List ℕ) (v : ℕ) → value_in p.names t ≡ some v → full (text_of p v) ≡ true
-  value_full t v e =
-      let c = by_text (sane p.names) p.names t v names_sane e in
-      ap full ((value_text t v e).0 ∙ sym c.text) ∙ sound_full c.name.text (sane_sound p.names c.name c.tested)
-    where
-      sound_full : (t : List ℕ) → T (sound t) → full t ≡ true
-      sound_full [] h = absurd h
-      sound_full (b ∷ bs) h = refl
 
   module _ (v : ℕ) (f : full (text_of p v) ≡ true) where
     chosen : Chosen (sane p.names) v (text_of p v)
@@ -215,31 +184,6 @@ module _ (p : Place) (g : T (good p)) where
 
     pub text_sound : T (sound (text_of p v))
     text_sound = subst (λ (t : List ℕ). T (sound t)) chosen.text (sane_sound p.names chosen.name chosen.tested)
-
-    chosen_fits : T (fits chosen.name)
-    chosen_fits = sane_fits p.names chosen.name chosen.tested
-
-    pub text_length : length (text_of p v) ≤ 7
-    text_length = subst (λ (t : List ℕ). length t ≤ 7) chosen.text (fits_short chosen.name chosen_fits)
-
-    pub key_text : text_of_key (key_in p.names v) ≡ text_of p v
-    key_text =
-        text_of_lem (key_of (text_of p v))
-        ∙ key_back key_bytes (text_of p v) (subst (λ (t : List ℕ). T (proper t)) chosen.text (fits_proper chosen.name chosen_fits)) (omega (arith, text_length))
-
-  no_names : (xs : List Name) → empty xs ≡ true → (v : ℕ) → text_in xs v ≡ []
-  no_names [] e v = refl
-  no_names (x ∷ xs) e v = absurd (never e)
-
-  -- a place that is not written has no text
-  pub unwritten_text : written p ≡ false → (v : ℕ) → text_of p v ≡ []
-  unwritten_text q v =
-      no_names p.names (by_test (written p) (empty p.names) q (holds _ (both (every (sane p.names) p.names) _ g).1)) v
-    where
-      by_test : (b d : Bool) → b ≡ false → same b (not d) ≡ true → d ≡ true
-      by_test b true q s = refl
-      by_test true false q s = absurd (never (sym q))
-      by_test false false q s = absurd (never s)
 
 -- a field is written where its set has more than one value, and its texts are those of the set's values
 abbrev writes : ℕ → Place → ℕ → Bool

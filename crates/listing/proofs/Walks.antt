@@ -1,142 +1,135 @@
--- A walk over the bytes of a line: blanks passed, an item passed, its key.
+-- A walk over the bytes of a line: blanks passed, and an item taken.
 use mathlib.Core.Path.{◌≡◌, refl, sym, ap, ◌∙◌}
-use mathlib.Core.Bool.{Bool, true, false}
-use mathlib.Core.List.{List, [], ◌∷◌, ◌++◌, append-nil, append_assoc}
+use mathlib.Core.Bool.{Bool, true, false, cond, not}
+use mathlib.Core.List.{List, [], ◌∷◌}
 use Prim.Native.Nat.{ℕ, suc, ◌+◌, ◌-◌, ◌<◌, ◌≤◌}
 use native.Mathlib.Omega.{arith}
-use native.Mathlib.Numerals.{add-one}
-use lib.ListN.{length, take, drop, get_or, length-drop, drop_of_length-le}
-use lib.Seq.{drop-cons, take-suc, get_or-drop}
-use Rattle.listing.specs.Items.{is_blank, item, items_from, up_to_blank}
-use Rattle.listing.specs.Keys.{key_from, one_more, no_key}
-use Rattle.listing.specs.Reading.{items_at, Starts, Ends, Nexts, column_of, first_key, first_text, after, some_left}
+use lib.Dec.{ltb}
+use lib.ListN.{length, take, drop, drop_of_length-le}
+use borrow.Author.Tests.{ltb-true, ltb-false}
+use Rattle.std.specs.Prelude.{Option, Some, None, unwrap_or}
+use Rattle.std.specs.List.{position_or_len}
+use lib.Seq.{take-length}
+use Rattle.std.proofs.lemmas.List.{drop-drop, length-drop}
+use Rattle.listing.specs.Items.{is_blank, Item, item, items_from, up_to_blank}
+use Rattle.listing.specs.Reading.{items_at}
 
-module _ (line : List ℕ) (i : ℕ) where
-  -- the end of the line
-  pub no_items : (begins : Bool) → length line ≤ i → items_from begins (suc i) (drop i line) ≡ []
-  no_items begins h = ap (items_from begins (suc i)) (drop_of_length-le line h)
+-- how many blanks come first, and how many bytes before the next blank
+abbrev pub blanks : List ℕ → ℕ
+blanks xs = position_or_len (λ b. not (is_blank b)) xs
 
-  pub no_more : length line ≤ i → up_to_blank (drop i line) ≡ []
-  no_more h = ap up_to_blank (drop_of_length-le line h)
+abbrev pub size : List ℕ → ℕ
+size xs = position_or_len is_blank xs
 
-  module _ (h : i < length line) where
-    head : drop i line ≡ get_or line i 0 ∷ drop (suc i) line
-    head = drop-cons line i 0 h
+-- blanks passed
+pass : (k : ℕ) (xs : List ℕ) → items_from true k xs ≡ items_from true (k + blanks xs) (drop (blanks xs) xs)
+pass k [] = refl
+pass k (b ∷ bs) = by_test (is_blank b) refl (pass (suc k) bs)
+  where
+    by_test : (q : Bool) → is_blank b ≡ q → items_from true (suc k) bs ≡ items_from true (suc k + blanks bs) (drop (blanks bs) bs)
+        → items_from true k (b ∷ bs) ≡ items_from true (k + blanks (b ∷ bs)) (drop (blanks (b ∷ bs)) (b ∷ bs))
+    by_test true e rest =
+        let n : 1 + blanks bs ≡ suc (blanks bs) = omega arith in
+        let m : suc k + blanks bs ≡ k + suc (blanks bs) = omega arith in
+        rw (e, n) (rest ∙ ap (λ (j : ℕ). items_from true j (drop (blanks bs) bs)) m)
+    by_test false e rest = let z : k + 0 ≡ k = omega arith in simp (e, z)
 
-    -- a blank
-    pub blank_items : (begins : Bool) → is_blank (get_or line i 0) ≡ true → items_from begins (suc i) (drop i line) ≡ items_at line (suc i)
-    blank_items begins e = ap (items_from begins (suc i)) head ∙ rw e
+-- an item's bytes, and what comes after them
+text_taken : (xs : List ℕ) → up_to_blank xs ≡ take (size xs) xs
+text_taken [] = refl
+text_taken (b ∷ bs) = by_test (is_blank b) refl (text_taken bs)
+  where
+    by_test : (q : Bool) → is_blank b ≡ q → up_to_blank bs ≡ take (size bs) bs → up_to_blank (b ∷ bs) ≡ take (size (b ∷ bs)) (b ∷ bs)
+    by_test true e rest = rw e
+    by_test false e rest =
+        let n : 1 + size bs ≡ suc (size bs) = omega arith in
+        rw (e, n) (ap (λ (z : List ℕ). b ∷ z) rest)
 
-    pub blank_ends : is_blank (get_or line i 0) ≡ true → up_to_blank (drop i line) ≡ []
-    blank_ends e = ap up_to_blank head ∙ rw e
+item_passed : (k : ℕ) (xs : List ℕ) → items_from false k xs ≡ items_from true (k + size xs) (drop (size xs) xs)
+item_passed k [] = refl
+item_passed k (b ∷ bs) = by_test (is_blank b) refl (item_passed (suc k) bs)
+  where
+    by_test : (q : Bool) → is_blank b ≡ q → items_from false (suc k) bs ≡ items_from true (suc k + size bs) (drop (size bs) bs)
+        → items_from false k (b ∷ bs) ≡ items_from true (k + size (b ∷ bs)) (drop (size (b ∷ bs)) (b ∷ bs))
+    by_test true e rest = let z : k + 0 ≡ k = omega arith in simp (e, z)
+    by_test false e rest =
+        let n : 1 + size bs ≡ suc (size bs) = omega arith in
+        let m : suc k + size bs ≡ k + suc (size bs) = omega arith in
+        rw (e, n) (rest ∙ ap (λ (j : ℕ). items_from true j (drop (size bs) bs)) m)
 
-    -- any other byte
-    pub byte_items : is_blank (get_or line i 0) ≡ false → items_from false (suc i) (drop i line) ≡ items_from false (suc (suc i)) (drop (suc i) line)
-    byte_items e = ap (items_from false (suc i)) head ∙ rw e
+-- what begins with a byte that is no blank begins with an item
+begun : (k : ℕ) (xs : List ℕ) → 0 < length xs → blanks xs ≡ 0 → items_from true k xs ≡ item k (take (size xs) xs) ∷ items_from true (k + size xs) (drop (size xs) xs)
+begun k [] h z = absurd (omega arith)
+begun k (b ∷ bs) h z = by_test (is_blank b) refl z
+  where
+    by_test : (q : Bool) → is_blank b ≡ q → blanks (b ∷ bs) ≡ 0
+        → items_from true k (b ∷ bs) ≡ item k (take (size (b ∷ bs)) (b ∷ bs)) ∷ items_from true (k + size (b ∷ bs)) (drop (size (b ∷ bs)) (b ∷ bs))
+    by_test true e z = absurd (let w = rw e at z in omega arith)
+    by_test false e z =
+        let xs : List ℕ = b ∷ bs in
+        let here : items_from true k xs ≡ item k (b ∷ up_to_blank bs) ∷ items_from false (suc k) bs = rw e in
+        let text : up_to_blank xs ≡ b ∷ up_to_blank bs = rw e in
+        let more : items_from false k xs ≡ items_from false (suc k) bs = rw e in
+        here
+        ∙ ap (λ (t : List ℕ). item k t ∷ items_from false (suc k) bs) (sym text ∙ text_taken xs)
+        ∙ ap (λ (ys : List Item). item k (take (size xs) xs) ∷ ys) (sym more ∙ item_passed k xs)
 
-    pub byte_text : is_blank (get_or line i 0) ≡ false → up_to_blank (drop i line) ≡ get_or line i 0 ∷ up_to_blank (drop (suc i) line)
-    byte_text e = ap up_to_blank head ∙ rw e
+blanks_passed : (xs : List ℕ) → blanks (drop (blanks xs) xs) ≡ 0
+blanks_passed [] = refl
+blanks_passed (b ∷ bs) = by_test (is_blank b) refl (blanks_passed bs)
+  where
+    by_test : (q : Bool) → is_blank b ≡ q → blanks (drop (blanks bs) bs) ≡ 0 → blanks (drop (blanks (b ∷ bs)) (b ∷ bs)) ≡ 0
+    by_test true e rest = let n : 1 + blanks bs ≡ suc (blanks bs) = omega arith in rw (e, n) rest
+    by_test false e rest = simp e
 
-    pub byte_begins : is_blank (get_or line i 0) ≡ false → items_at line i ≡ item (suc i) (get_or line i 0 ∷ up_to_blank (drop (suc i) line)) ∷ items_from false (suc (suc i)) (drop (suc i) line)
-    byte_begins e = ap (items_from true (suc i)) head ∙ rw e
+-- the next item, if a byte is left that is no blank
+module _ (line : List ℕ) (at : ℕ) where
+  pub none_left : (rest : List ℕ) → rest ≡ drop at line → length rest ≤ blanks rest → items_at line at ≡ []
+  none_left rest er h =
+      ap (items_from true (suc at)) (sym er)
+      ∙ pass (suc at) rest
+      ∙ ap (items_from true (suc at + blanks rest)) (drop_of_length-le rest h)
 
--- within an item from `at` on: what was passed, and what is to come
-pub text_turn : (line : List ℕ) (at i : ℕ) → at ≤ i → i < length line → is_blank (get_or line i 0) ≡ false
-    → up_to_blank (drop at line) ≡ take (i - at) (drop at line) ++ up_to_blank (drop i line)
-    → up_to_blank (drop at line) ≡ take (suc i - at) (drop at line) ++ up_to_blank (drop (suc i) line)
-text_turn line at i l h e q =
-    let d : suc i - at ≡ suc (i - at) = omega arith in
-    let j : at + (i - at) ≡ i = omega arith in
-    let s : i - at < length (drop at line) = simp length-drop (omega arith) in
-    let g : get_or (drop at line) (i - at) 0 ≡ get_or line i 0 = get_or-drop at line (i - at) 0 ∙ ap (λ (x : ℕ). get_or line x 0) j in
-    q
-    ∙ ap (λ (z : List ℕ). take (i - at) (drop at line) ++ z) (byte_text line i h e)
-    ∙ sym (append_assoc (take (i - at) (drop at line)) (get_or line i 0 ∷ []) (up_to_blank (drop (suc i) line)))
-    ∙ ap (λ (z : ℕ). (take (i - at) (drop at line) ++ (z ∷ [])) ++ up_to_blank (drop (suc i) line)) (sym g)
-    ∙ ap (λ (z : List ℕ). z ++ up_to_blank (drop (suc i) line)) (sym (take-suc (drop at line) (i - at) 0 s))
-    ∙ ap (λ (z : ℕ). take z (drop at line) ++ up_to_blank (drop (suc i) line)) (sym d)
+  pub next_left : (n m : ℕ) (rest item_on : List ℕ) → rest ≡ drop at line → n ≡ blanks rest → n < length rest → item_on ≡ drop (at + n) line → m ≡ size item_on
+      → items_at line at ≡ item (at + n + 1) (take m item_on) ∷ items_at line (at + n + m)
+  next_left n m rest item_on er en h ei em =
+      let b : blanks (drop at line) ≡ n = sym (en ∙ ap blanks er) in
+      let d : drop n (drop at line) ≡ item_on = drop-drop n at line ∙ sym ei in
+      let z : blanks item_on ≡ 0 = ap blanks (sym d ∙ ap (λ (j : ℕ). drop j (drop at line)) (sym b)) ∙ blanks_passed (drop at line) in
+      let l : length item_on ≡ length rest - n = ap length (sym d) ∙ length-drop n (drop at line) ∙ ap (λ (xs : List ℕ). length xs - n) (sym er) in
+      let k : suc at + n ≡ at + n + 1 = omega arith in
+      let j : suc at + n + m ≡ suc (at + n + m) = omega arith in
+      let r : drop m item_on ≡ drop (at + n + m) line = ap (drop m) ei ∙ drop-drop m (at + n) line in
+      pass (suc at) (drop at line)
+      ∙ ap (λ (j : ℕ). items_from true (suc at + j) (drop j (drop at line))) b
+      ∙ ap (items_from true (suc at + n)) d
+      ∙ begun (suc at + n) item_on (omega arith) z
+      ∙ ap (λ (j : ℕ). item (suc at + n) (take j item_on) ∷ items_from true (suc at + n + j) (drop j item_on)) (sym em)
+      ∙ ap (λ (j : ℕ). item j (take m item_on) ∷ items_from true (suc at + n + m) (drop m item_on)) k
+      ∙ ap (λ (xs : List ℕ). item (at + n + 1) (take m item_on) ∷ items_from true (suc at + n + m) xs) r
+      ∙ ap (λ (i : ℕ). item (at + n + 1) (take m item_on) ∷ items_from true i (drop (at + n + m) line)) j
 
--- a key's bytes, from the last to the first
-pub key_turn : (line : List ℕ) (i end key : ℕ) → i < end → end ≤ length line → key ≡ key_from (take (end - suc i) (drop (suc i) line))
-    → one_more (get_or line i 0) key ≡ key_from (take (end - i) (drop i line))
-key_turn line i end key h l e =
-    let d : end - i ≡ suc (end - suc i) = omega arith in
-    let k : take (end - i) (drop i line) ≡ get_or line i 0 ∷ take (end - suc i) (drop (suc i) line) =
-    ap (λ (n : ℕ). take n (drop i line)) d ∙ ap (take (suc (end - suc i))) (drop-cons line i 0 (omega arith)) in
-    ap (one_more (get_or line i 0)) e ∙ sym (ap key_from k)
+-- what a search for an index answered
+pub found_at : (n l i : ℕ) → cond (ltb n l) (Some n) None ≡ Some i → (i ≡ n) × (n < l)
+found_at n l i e = by_test (ltb n l) refl e
+  where
+    by_test : (q : Bool) → ltb n l ≡ q → cond q (Some n) None ≡ Some i → (i ≡ n) × (n < l)
+    by_test true q e = (cc, ltb-true n l q)
+    by_test false q e = absurd cc
 
--- the next item
-pub next_found : (line : List ℕ) (at s e key : ℕ) → Starts line at s → s < length line → Ends line s e → key ≡ key_from (take (e - s) (drop s line))
-    → Nexts line at (record { found = true; start = s; column = s + 1; key = key; at = e })
-next_found line at s e key st h en ek =
-    let n = st.here h in
-    let xs : items_at line at ≡ item (suc s) (get_or line s 0 ∷ up_to_blank (drop (suc s) line)) ∷ items_from false (suc (suc s)) (drop (suc s) line) = st.items ∙ byte_begins line s h n in
-    record {
-      from = en.from;
-      bound = en.bound;
-      found = sym (ap some_left xs);
-      column = add-one s ∙ sym (ap (column_of (suc (length line))) xs);
-      key = ek ∙ ap key_from (sym en.text ∙ byte_text line s h n) ∙ sym (ap first_key xs);
-      text = ap first_text xs ∙ sym (byte_text line s h n) ∙ en.text;
-      items = sym en.items ∙ byte_items line s h n ∙ sym (ap after xs);
-    }
+pub not_found : (n l : ℕ) → cond (ltb n l) (Some n) None ≡ None → l ≤ n
+not_found n l e = by_test (ltb n l) refl e
+  where
+    by_test : (q : Bool) → ltb n l ≡ q → cond q (Some n) None ≡ None → l ≤ n
+    by_test true q e = absurd cc
+    by_test false q e = ltb-false n l q
 
-pub next_none : (line : List ℕ) (at s : ℕ) → Starts line at s → length line ≤ s
-    → Nexts line at (record { found = false; start = s; column = s + 1; key = no_key; at = s })
-next_none line at s st h =
-    let xs : items_at line at ≡ [] = st.items ∙ no_items line s true h in
-    let e : s + 1 ≡ suc (length line) = omega (arith, st.bound) in
-    let none : s - s ≡ 0 = omega arith in
-    record {
-      from = omega arith;
-      bound = st.bound;
-      found = sym (ap some_left xs);
-      column = e ∙ sym (ap (column_of (suc (length line))) xs);
-      key = sym (ap first_key xs);
-      text = ap first_text xs ∙ sym (ap (λ (n : ℕ). take n (drop s line)) none);
-      items = sym st.items ∙ xs ∙ sym (ap after xs);
-    }
+pub found_or_all : (n l m : ℕ) (r : Option ℕ) → r ≡ cond (ltb n l) (Some n) None → n ≤ l → m ≡ unwrap_or r l → m ≡ n
+found_or_all n l m r e h em = by_test (ltb n l) refl (em ∙ ap (λ (o : Option ℕ). unwrap_or o l) e)
+  where
+    by_test : (q : Bool) → ltb n l ≡ q → m ≡ unwrap_or (cond q (Some n) None) l → m ≡ n
+    by_test true q e = e
+    by_test false q e = let g = ltb-false n l q in omega arith
 
--- within an item that began at `at`
-pub record Within (line : List ℕ) (at i : ℕ) : Type 0 where
-  pub from : at ≤ i
-  pub bound : i ≤ length line
-  pub text : up_to_blank (drop at line) ≡ take (i - at) (drop at line) ++ up_to_blank (drop i line)
-  pub items : items_from false (suc at) (drop at line) ≡ items_from false (suc i) (drop i line)
-
-pub within_start : (line : List ℕ) (at : ℕ) → at ≤ length line → Within line at at
-within_start line at h =
-    let z : at - at ≡ 0 = omega arith in
-    record { from = omega arith; bound = h; text = rw z; items = refl }
-
-module _ (line : List ℕ) (at i : ℕ) (w : Within line at i) where
-  pub within_turn : i < length line → is_blank (get_or line i 0) ≡ false → Within line at (i + 1)
-  within_turn h e = rw (add-one i) (record {
-    from = omega (arith, w.from);
-    bound = h;
-    text = text_turn line at i w.from h e w.text;
-    items = w.items ∙ byte_items line i h e;
-  })
-
-  within_over : up_to_blank (drop i line) ≡ [] → items_from false (suc i) (drop i line) ≡ items_at line i → Ends line at i
-  within_over t s = record {
-    from = w.from;
-    bound = w.bound;
-    text = w.text ∙ ap (λ (z : List ℕ). take (i - at) (drop at line) ++ z) t ∙ append-nil (take (i - at) (drop at line));
-    items = w.items ∙ s;
-  }
-
-  pub within_blank : i < length line → is_blank (get_or line i 0) ≡ true → Ends line at i
-  within_blank h e = within_over (blank_ends line i h e) (blank_items line i h false e ∙ sym (blank_items line i h true e))
-
-  pub within_end : length line ≤ i → Ends line at i
-  within_end h = within_over (no_more line i h) (no_items line i false h ∙ sym (no_items line i true h))
-
-pub blank_turn : (line : List ℕ) (at i : ℕ) → i < length line → is_blank (get_or line i 0) ≡ true → items_at line at ≡ items_at line i → items_at line at ≡ items_at line (i + 1)
-blank_turn line at i h e q = rw (add-one i) (q ∙ blank_items line i h true e)
-
-pub key_turn_down : (line : List ℕ) (i end key : ℕ) → 0 < i → i ≤ end → end ≤ length line → key ≡ key_from (take (end - i) (drop i line))
-    → one_more (get_or line (i - 1) 0) key ≡ key_from (take (end - (i - 1)) (drop (i - 1) line))
-key_turn_down line i end key z h l e =
-    let s : i ≡ suc (i - 1) = omega arith in
-    key_turn line (i - 1) end key (omega arith) l (e ∙ ap (λ (j : ℕ). key_from (take (end - j) (drop j line))) s)
+pub whole : (at : ℕ) (line : List ℕ) → take (length line - at) (drop at line) ≡ drop at line
+whole at line = ap (λ (n : ℕ). take n (drop at line)) (sym (length-drop at line)) ∙ take-length (drop at line)

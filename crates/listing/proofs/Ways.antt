@@ -1,139 +1,119 @@
 -- The ways through the reader, each over what its calls answered.
-use mathlib.Core.Path.{◌≡◌, refl, sym, ap, ◌∙◌, subst}
+use mathlib.Core.Path.{◌≡◌, refl, ap, ◌∙◌}
 use mathlib.Core.List.{List, [], ◌∷◌}
-use mathlib.Core.Option.{Option, none, some}
-use Prim.Native.Nat.{ℕ, ◌≤◌, ◌<◌}
-use lib.ListN.{length}
-use native.Mathlib.Omega.{arith}
-use Rattle.choice.specs.Along.{Along}
-use Rattle.choice.specs.Tells.{Placed, refused_at}
-use Rattle.choice.proofs.Tells.{refused_at_one}
+use Prim.Native.Nat.{ℕ}
+use Rattle.std.specs.Prelude.{Option as Maybe, None, Some, Result, Ok, Err}
+use Rattle.std.specs.Option.{ok_or}
+use Rattle.choice.specs.Tells.{Tells, Placed, accepted_whole, refused_at}
+use Rattle.refusals.specs.declared.Refusal.{Refusal}
+use Rattle.refusals.specs.declared.Refused.{Refused}
+use Rattle.refusals.specs.Numbers.{number_of}
 use Rattle.alu.specs.declared.Mode.{Mode}
 use Rattle.isa.specs.declared.Row.{Row}
 use Rattle.isa.specs.Fields.{mode_of}
-use Rattle.isa.specs.Table.{row_at, no_row}
-use Rattle.listing.specs.declared.Step.{Step}
-use Rattle.listing.specs.declared.Read.{Read}
-use Rattle.listing.specs.Places.{Place, Form, form_of, at_family, at_mode, value_in}
-use Rattle.listing.specs.Items.{Item}
-use Rattle.listing.specs.Lines.{value_then, expect, field, ended, encoded, instruction, fields_of, word_of, past_of}
-use Rattle.listing.specs.Answers.{read_tells}
-use Rattle.listing.specs.Entries.{placed, same_place}
-use Rattle.listing.specs.Reading.{items_at, Steps}
-use Rattle.listing.proofs.Tables.{family_good, family_small, value_text, value_full}
-use Rattle.listing.proofs.Finds.{along_place}
+use Rattle.isa.specs.Table.{row_at}
+use Rattle.isa.specs.Words.{encode_of}
+use Rattle.listing.specs.declared.items.Items.{Items}
+use Rattle.listing.specs.declared.places.Place.{Place as Spot}
+use Rattle.listing.specs.Places.{Place, form_of, at_family, at_mode, value_in}
+use Rattle.listing.specs.Items.{Item, item, items_of}
+use Rattle.listing.specs.Lines.{expect, field, ended, encoded, instruction, fields_of, word_of, past_of}
+use Rattle.listing.specs.Data.{data_from, data_of}
+use Rattle.listing.specs.Told.{option_told, place_told, field_told}
+use Rattle.listing.specs.Reading.{left, past, resume, Steps, data_first}
 
-module _ (line : List ℕ) (rule : (ℕ → List Item → Placed ℕ) → Placed ℕ) (r : Step) (s : Steps line r rule) where
-  pub refused_way : (next : ℕ → List Item → Placed ℕ) (k column : ℕ) → r ≡ Step.Refused k column → refused_at k column ≡ rule next
-  refused_way next k column e = (subst (λ (r : Step). Steps line r rule) e s).leads next
+-- a first item is read by what it says at a place
+pub expect_first : (past : ℕ) (k : Refusal) (p : Place) (column : ℕ) (t : List ℕ) (xs rest : List Item) (o : Maybe ℕ) → number_of k ≡ p.refusal
+    → xs ≡ item column t ∷ rest → option_told o ≡ value_in p.names t
+    → (next : ℕ → List Item → Placed ℕ) → resume (ok_or o (record { refusal = k; index = column })) rest next ≡ expect past p xs next
+expect_first past k p column t xs rest None ek ei eo next = rw (ei, ek, ← eo)
+expect_first past k p column t xs rest (Some v) ek ei eo next = rw (ei, ← eo)
 
-  pub value_way : (next : ℕ → List Item → Placed ℕ) (v at : ℕ) → r ≡ Step.Value v at → next v (items_at line at) ≡ rule next
-  value_way next v at e = (subst (λ (r : Step). Steps line r rule) e s).leads next
+-- the reader stands at some items, and what is read of them next is what is wanted of the line
+pub record Stands (line : List ℕ) (wanted : Placed ℕ) (s : Items) (rest : List Item → Placed ℕ) : Type 0 where
+  pub end : past s ≡ past_of line
+  pub leads : rest (left s) ≡ wanted
 
-  pub value_bound : (v at : ℕ) → r ≡ Step.Value v at → at ≤ length line
-  value_bound v at e = (subst (λ (r : Step). Steps line r rule) e s).bound
+-- what a refusal tells
+abbrev pub out : Refused → Placed ℕ
+out e = refused_at (number_of e.refusal) e.index
 
--- the fields of a row, at the places of its family
-module _ (line : List ℕ) (at i mark : ℕ) (l : i < no_row) (row : Row) (er : row ≡ row_at i) where
-  abbrev past : ℕ
-  past = past_of line
+module _ {line : List ℕ} {wanted : Placed ℕ} {s t : Items} where
+  module _ {next : ℕ → List Item → Placed ℕ} (spot : Spot) {p : Place} (w : Stands line wanted s (λ xs. expect (past_of line) p xs next)) (e : place_told spot ≡ p) where
+    expect_step : (r : Result ℕ Refused) → Steps s t r (expect (past s) (place_told spot) (left s)) → resume r (left t) next ≡ wanted
+    expect_step r st = st.leads next ∙ rw (w.end, e) w.leads
 
-  abbrev wanted : Placed ℕ
-  wanted = fields_of past (row_at i) mark (items_at line at)
+    pub expect_on : {v : ℕ} → Steps s t (Ok v) (expect (past s) (place_told spot) (left s)) → Stands line wanted t (next v)
+    expect_on {v} st = record { end = st.line ∙ w.end; leads = expect_step (Ok v) st }
 
-  abbrev by_c : ℕ → ℕ → ℕ → List Item → Placed ℕ
-  by_c a b c xs = ended xs (encoded (instruction row mark a b c))
+    pub expect_out : {k : Refused} → Steps s t (Err k) (expect (past s) (place_told spot) (left s)) → out k ≡ wanted
+    expect_out {k} st = expect_step (Err k) st
 
-  abbrev by_b : ℕ → ℕ → List Item → Placed ℕ
-  by_b a b xs = field past row.c (form_of row.family).c xs (by_c a b)
+  module _ (set wanted_set : ℕ) (es : set ≡ wanted_set) (spot : Maybe Spot) (p : Place) (next : ℕ → List Item → Placed ℕ) (w : Stands line wanted s (λ xs. field (past_of line) wanted_set p xs next)) (e : field_told spot ≡ p) where
+    field_step : (r : Result ℕ Refused) → Steps s t r (field (past s) set (field_told spot) (left s)) → resume r (left t) next ≡ wanted
+    field_step r st = st.leads next ∙ rw (w.end, e, es) w.leads
 
-  abbrev by_a : ℕ → List Item → Placed ℕ
-  by_a a xs = field past row.b (form_of row.family).b xs (by_b a)
+    pub field_on : {v : ℕ} → Steps s t (Ok v) (field (past s) set (field_told spot) (left s)) → Stands line wanted t (next v)
+    field_on {v} st = record { end = st.line ∙ w.end; leads = field_step (Ok v) st }
 
-  whole : field past row.a (form_of row.family).a (items_at line at) by_a ≡ wanted
-  whole = ap (λ (r : Row). fields_of past r mark (items_at line at)) er
+    pub field_out : {k : Refused} → Steps s t (Err k) (field (past s) set (field_told spot) (left s)) → out k ≡ wanted
+    field_out {k} st = field_step (Err k) st
 
-  -- a step at a place is one at the family's
-  of_family : (field_of : Form → Place) (p s at : ℕ) (r : Step) → Along same_place no_row (λ j. field_of (form_of (row_at j).family)) i (placed p)
-      → Steps line r (field past s (placed p) (items_at line at)) → Steps line r (field past s (field_of (form_of row.family)) (items_at line at))
-  of_family field_of p s at r q t =
-      subst (λ (p : Place). Steps line r (field past s p (items_at line at)))
-      (along_place no_row (λ j. field_of (form_of (row_at j).family)) i (placed p) q l ∙ ap (λ (r : Row). field_of (form_of r.family)) (sym er)) t
+-- what is read of a word after its family, after its mode, and after its fields
+abbrev pub by_fields : List ℕ → ℕ → ℕ → List Item → Placed ℕ
+by_fields line i mark xs = fields_of (past_of line) (row_at i) mark xs
 
-  module _ (pa : ℕ) (qa : Along same_place no_row (λ j. (form_of (row_at j).family).a) i (placed pa)) (ra : Step) (ta : Steps line ra (field past row.a (placed pa) (items_at line at))) where
-    sa : Steps line ra (field past row.a (form_of row.family).a (items_at line at))
-    sa = of_family (λ f. f.a) pa row.a at ra qa ta
+abbrev pub by_mode : List ℕ → ℕ → List Item → Placed ℕ
+by_mode line i xs = expect (past_of line) at_mode xs (by_fields line i)
 
-    pub way_a : (k column : ℕ) → ra ≡ Step.Refused k column → refused_at k column ≡ wanted
-    way_a k column e = refused_way line _ ra sa by_a k column e ∙ whole
+abbrev pub by_end : Row → ℕ → ℕ → ℕ → ℕ → List Item → Placed ℕ
+by_end row mark a b c xs = ended xs (encoded (instruction row mark a b c))
 
-    module _ (a at₁ : ℕ) (va : ra ≡ Step.Value a at₁) (pb : ℕ) (qb : Along same_place no_row (λ j. (form_of (row_at j).family).b) i (placed pb)) (rb : Step)
-        (tb : Steps line rb (field past row.b (placed pb) (items_at line at₁))) where
-      sb : Steps line rb (field past row.b (form_of row.family).b (items_at line at₁))
-      sb = of_family (λ f. f.b) pb row.b at₁ rb qb tb
+abbrev pub by_c : List ℕ → Row → ℕ → ℕ → ℕ → List Item → Placed ℕ
+by_c line row mark a b xs = field (past_of line) row.c (form_of row.family).c xs (by_end row mark a b)
 
-      after_a : by_a a (items_at line at₁) ≡ wanted
-      after_a = value_way line _ ra sa by_a a at₁ va ∙ whole
+abbrev pub by_b : List ℕ → Row → ℕ → ℕ → List Item → Placed ℕ
+by_b line row mark a xs = field (past_of line) row.b (form_of row.family).b xs (by_c line row mark a)
 
-      pub way_b : (k column : ℕ) → rb ≡ Step.Refused k column → refused_at k column ≡ wanted
-      way_b k column e = refused_way line _ rb sb (by_b a) k column e ∙ after_a
+abbrev pub by_a : List ℕ → Row → ℕ → List Item → Placed ℕ
+by_a line row mark xs = field (past_of line) row.a (form_of row.family).a xs (by_b line row mark)
 
-      module _ (b at₂ : ℕ) (vb : rb ≡ Step.Value b at₂) (pc : ℕ) (qc : Along same_place no_row (λ j. (form_of (row_at j).family).c) i (placed pc)) (rc : Step)
-          (tc : Steps line rc (field past row.c (placed pc) (items_at line at₂))) where
-        sc : Steps line rc (field past row.c (form_of row.family).c (items_at line at₂))
-        sc = of_family (λ f. f.c) pc row.c at₂ rc qc tc
+abbrev pub by_family : List ℕ → List Item → Placed ℕ
+by_family line xs = expect (past_of line) at_family xs (by_mode line)
 
-        after_b : by_b a b (items_at line at₂) ≡ wanted
-        after_b = value_way line _ rb sb (by_b a) b at₂ vb ∙ after_a
+pub word_start : (line : List ℕ) (s : Items) → left s ≡ items_of line → past s ≡ past_of line → Stands line (word_of line) s (by_family line)
+unfolding word_of
+word_start line s el ep = record { end = ep; leads = ap (by_family line) el }
 
-        pub way_c : (k column : ℕ) → rc ≡ Step.Refused k column → refused_at k column ≡ wanted
-        way_c k column e = refused_way line _ rc sc (by_c a b) k column e ∙ after_b
+pub fields_start : {line : List ℕ} {wanted : Placed ℕ} {s : Items} (i mark : ℕ) (row : Row) → Stands line wanted s (by_fields line i mark) → row ≡ row_at i
+    → Stands line wanted s (by_a line row mark)
+fields_start {line} {wanted} {s} i mark row w e = record { end = w.end; leads = ap (λ (r : Row). fields_of (past_of line) r mark (left s)) e ∙ w.leads }
 
-        pub way_end : (c at₃ : ℕ) → rc ≡ Step.Value c at₃ → (mode : Mode) → mode ≡ mode_of mark → (r : Read)
-            → read_tells r ≡ ended (items_at line at₃) (encoded (record { family = row.family; mode = mode; a = a; b = b; c = c }))
-            → read_tells r ≡ wanted
-        way_end c at₃ vc mode em r e =
-            e
-            ∙ ap (λ (m : Mode). ended (items_at line at₃) (encoded (record { family = row.family; mode = m; a = a; b = b; c = c }))) em
-            ∙ value_way line _ rc sc (by_c a b) c at₃ vc
-            ∙ after_b
+pub encode_told : {wanted : Placed ℕ} (row : Row) (mark a b c : ℕ) {mode : Mode} {told : Tells ℕ} → encoded (instruction row mark a b c) ≡ wanted → mode ≡ mode_of mark
+    → told ≡ encode_of (record { family = row.family; mode = mode; a = a; b = b; c = c }) → record { told = told; index = 0 } ≡ wanted
+encode_told row mark a b c w em et =
+    ap (λ (t : Tells ℕ). record { told = t; index = 0 }) et ∙ ap (λ (m : Mode). encoded (record { family = row.family; mode = m; a = a; b = b; c = c })) em ∙ w
 
--- the line
-module _ (line : List ℕ) (rf : Step) (sf : Steps line rf (expect (past_of line) at_family (items_at line 0))) where
-  abbrev by_mode : ℕ → ℕ → List Item → Placed ℕ
-  by_mode i mark xs = fields_of (past_of line) (row_at i) mark xs
+-- what is read of data
+pub data_start : (line : List ℕ) (s : Items) → left s ≡ items_of line → past s ≡ past_of line → Stands line (data_of line) s (λ xs. data_first (past_of line) xs (λ d xs. ended xs (accepted_whole d)))
+unfolding data_of
+data_start line s el ep = record { end = ep; leads = by_items (left s) ∙ ap (data_from (past_of line)) el }
+  where
+    by_items : (xs : List Item) → data_first (past_of line) xs (λ d xs. ended xs (accepted_whole d)) ≡ data_from (past_of line) xs
+    by_items [] = refl
+    by_items (x ∷ xs) = refl
 
-  abbrev by_family : ℕ → List Item → Placed ℕ
-  by_family i xs = expect (past_of line) at_mode xs (by_mode i)
+module _ {line : List ℕ} {wanted : Placed ℕ} {s t : Items} {next : ℕ → List Item → Placed ℕ} (w : Stands line wanted s (λ xs. data_first (past_of line) xs next)) where
+  data_step : (r : Result ℕ Refused) → Steps s t r (data_first (past s) (left s)) → resume r (left t) next ≡ wanted
+  data_step r st = st.leads next ∙ rw w.end w.leads
 
-  pub way_family : (k column : ℕ) → rf ≡ Step.Refused k column → refused_at k column ≡ word_of line
-  unfolding word_of
-  way_family k column e = refused_way line _ rf sf by_family k column e
+  pub data_on : {v : ℕ} → Steps s t (Ok v) (data_first (past s) (left s)) → Stands line wanted t (next v)
+  data_on {v} st = record { end = st.line ∙ w.end; leads = data_step (Ok v) st }
 
-  module _ (i at₁ : ℕ) (ei : rf ≡ Step.Value i at₁) (rm : Step) (sm : Steps line rm (expect (past_of line) at_mode (items_at line at₁))) where
-    -- a family that was read has a row
-    pub family_bound : i < no_row
-    family_bound =
-        bound_by (items_at line 0) (value_way line _ rf sf (λ v xs. refused_at v 0) i at₁ ei)
-      where
-        bound_by : (xs : List Item) → refused_at i 0 ≡ expect (past_of line) at_family xs (λ v xs. refused_at v 0) → i < no_row
-        bound_by [] e = let h : i ≡ 20 = (refused_at_one {A = ℕ} i 20 0 (past_of line) e).0 in omega arith
-        bound_by (x ∷ xs) e = by_value (value_in at_family.names x.text) refl e
-          where
-            by_value : (o : Option ℕ) → value_in at_family.names x.text ≡ o → refused_at i 0 ≡ value_then 20 x.column xs o (λ v xs. refused_at v 0) → i < no_row
-            by_value none q e = let h : i ≡ 20 = (refused_at_one {A = ℕ} i 20 0 x.column e).0 in omega arith
-            by_value (some v) q e =
-                let h : i ≡ v = (refused_at_one {A = ℕ} i v 0 0 e).0 in
-                let b : v < no_row = family_small v (value_text at_family family_good x.text v q).1 (value_full at_family family_good x.text v q) in
-                omega arith
+  pub data_out : {k : Refused} → Steps s t (Err k) (data_first (past s) (left s)) → out k ≡ wanted
+  data_out {k} st = data_step (Err k) st
 
-    after_family : by_family i (items_at line at₁) ≡ word_of line
-    unfolding word_of
-    after_family = value_way line _ rf sf by_family i at₁ ei
-
-    pub way_mode : (k column : ℕ) → rm ≡ Step.Refused k column → refused_at k column ≡ word_of line
-    way_mode k column e = refused_way line _ rm sm (by_mode i) k column e ∙ after_family
-
-    pub way_word : (mark at₂ : ℕ) → rm ≡ Step.Value mark at₂ → (r : Read)
-        → read_tells r ≡ fields_of (past_of line) (row_at i) mark (items_at line at₂) → read_tells r ≡ word_of line
-    way_word mark at₂ em r e = e ∙ value_way line _ rm sm (by_mode i) mark at₂ em ∙ after_family
+-- nothing is left over, or something is
+pub end_met : {line : List ℕ} {wanted next : Placed ℕ} {s : Items} → Stands line wanted s (λ xs. ended xs next) → (r : Result (Unit {0}) Refused)
+    → ((next : Placed ℕ) → resume r [] (λ _ _. next) ≡ ended (left s) next) → resume r [] (λ _ _. next) ≡ wanted
+end_met {line} {wanted} {next} w r st = st next ∙ w.leads

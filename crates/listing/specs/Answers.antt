@@ -1,20 +1,21 @@
 -- What the calls answer: how many bytes were filled, or a refusal; the word or the data of a line, or a refusal with its column.
-use Rattle.std.specs.Prelude.{ℕ, List, ◌++◌, ltb, length, drop}
+use Rattle.std.specs.Prelude.{ℕ, List, ◌++◌, ltb, length, drop, Result, Ok, Err}
 use Rattle.std.proofs.Math.Option.{none, some}
 use Rattle.choice.specs.Pick.{pick}
 use Rattle.choice.specs.Tells.{Tells, accepted, refused, Placed, accepted_whole, refused_at}
-use Rattle.listing.specs.declared.Printed.{Printed}
-use Rattle.listing.specs.declared.Read.{Read}
+use Rattle.refusals.specs.declared.Refusal.{Refusal}
+use Rattle.refusals.specs.declared.Refused.{Refused}
+use Rattle.refusals.specs.Numbers.{number_of}
 use Rattle.listing.specs.Lines.{line_of}
 use Rattle.listing.specs.Data.{data_line}
 
-abbrev pub printed_tells : Printed → Tells ℕ
-printed_tells (Printed.Filled n) = accepted n
-printed_tells (Printed.Refused k) = refused k
+abbrev pub printed_tells : Result ℕ Refusal → Tells ℕ
+printed_tells (Ok n) = accepted n
+printed_tells (Err k) = refused (number_of k)
 
-abbrev pub read_tells : Read → Placed ℕ
-read_tells (Read.Word w) = accepted_whole w
-read_tells (Read.Refused k column) = refused_at k column
+abbrev pub read_tells : Result ℕ Refused → Placed ℕ
+read_tells (Ok w) = accepted_whole w
+read_tells (Err e) = refused_at (number_of e.refusal) e.index
 
 -- what a call tells, and the lent bytes after it
 pub record Outcome : Type 0 where

@@ -4,7 +4,6 @@ pub mod Items
 pub mod Lines
 pub mod Data
 pub mod Answers
-pub mod Keys
-pub mod Entries
+pub mod Told
 pub mod Reading
 pub mod Refusing

@@ -1,67 +1,54 @@
--- For the contracts of private parts alone, those of the reader: the next item of a line from an index on, what is read of it, and what is read next.
-use Rattle.std.specs.Prelude.{◌≡◌, Bool, true, false, List, [], ◌∷◌, ℕ, suc, ◌-◌, ◌≤◌, ◌<◌, length, drop, take, get_or}
+-- For the contracts of private parts alone, those of the reader: the items that are left of a line, what is read of the first, and what is read next.
+use Rattle.std.specs.Prelude.{◌≡◌, true, List, [], ◌∷◌, ℕ, suc, length, drop, Option, None, Some, Result, Ok, Err}
 use Rattle.choice.specs.Tells.{Placed, refused_at}
-use Rattle.listing.specs.declared.Next.{Next}
-use Rattle.listing.specs.declared.Step.{Step}
-use Rattle.listing.specs.Items.{is_blank, Item, items_from, up_to_blank}
-use Rattle.listing.specs.Keys.{key_from, no_key}
+use Rattle.refusals.specs.declared.Refusal.{Refusal}
+use Rattle.refusals.specs.declared.Refused.{Refused}
+use Rattle.refusals.specs.Numbers.{number_of}
+use Rattle.listing.specs.declared.items.Item.{Item as Read}
+use Rattle.listing.specs.declared.items.Items.{Items}
+use Rattle.listing.specs.Items.{Item, item, items_from}
+use Rattle.listing.specs.Data.{data_in}
+use Rattle.listing.specs.Lines.{value_then}
 
 -- the items from an index on that is not inside an item
 abbrev pub items_at : List ℕ → ℕ → List Item
 items_at line at = items_from true (suc at) (drop at line)
 
--- blanks passed: the index of the next item, or the line's length
-pub record Starts (line : List ℕ) (at r : ℕ) : Type 0 where
-  pub bound : r ≤ length line
-  pub items : items_at line at ≡ items_at line r
-  pub here : r < length line → is_blank (get_or line r 0) ≡ false
+abbrev pub left : Items → List Item
+left r = items_at r.line.now r.at
 
--- an item passed: the index after it
-pub record Ends (line : List ℕ) (at r : ℕ) : Type 0 where
-  pub from : at ≤ r
-  pub bound : r ≤ length line
-  pub text : up_to_blank (drop at line) ≡ take (r - at) (drop at line)
-  pub items : items_from false (suc at) (drop at line) ≡ items_at line r
+-- the column one past the line
+abbrev pub past : Items → ℕ
+past r = suc (length r.line.now)
 
--- the first item's column and key, and the items after it; one past the line, and no key, where there is none
-abbrev pub column_of : ℕ → List Item → ℕ
-column_of past [] = past
-column_of past (x ∷ xs) = x.column
+-- the first item, and those after it
+abbrev pub Takes : List Item → Option Read → List Item → Type 0
+Takes xs None ys = (xs ≡ []) × (ys ≡ [])
+Takes xs (Some i) ys = xs ≡ item i.column i.text.now ∷ ys
 
-abbrev pub first_key : List Item → ℕ
-first_key [] = no_key
-first_key (x ∷ xs) = key_from x.text
+pub record NextItem (before after : Items) (r : Option Read) : Type 0 where
+  pub line : past after ≡ past before
+  pub takes : Takes (left before) r (left after)
 
-abbrev pub first_text : List Item → List ℕ
-first_text [] = []
-first_text (x ∷ xs) = x.text
+-- the same, or a refusal one past the line
+abbrev pub Given : ℕ → List Item → Refusal → Result Read Refused → List Item → Type 0
+Given end xs k (Ok i) ys = xs ≡ item i.column i.text.now ∷ ys
+Given end xs k (Err e) ys = (xs ≡ []) × (e ≡ record { refusal = k; index = end })
 
-abbrev pub after : List Item → List Item
-after [] = []
-after (x ∷ xs) = xs
+pub record FirstItem (before after : Items) (k : Refusal) (r : Result Read Refused) : Type 0 where
+  pub line : past after ≡ past before
+  pub given : Given (past before) (left before) k r (left after)
 
-abbrev pub some_left : List Item → Bool
-some_left [] = false
-some_left (x ∷ xs) = true
+-- the data of the first item
+abbrev pub data_first : ℕ → List Item → (ℕ → List Item → Placed ℕ) → Placed ℕ
+data_first end [] next = refused_at 21 end
+data_first end (x ∷ xs) next = value_then 21 x.column xs (data_in x.text) next
 
-pub record Nexts (line : List ℕ) (at : ℕ) (r : Next) : Type 0 where
-  pub from : r.start ≤ r.at
-  pub bound : r.at ≤ length line
-  pub found : r.found ≡ some_left (items_at line at)
-  pub column : r.column ≡ column_of (suc (length line)) (items_at line at)
-  pub key : r.key ≡ first_key (items_at line at)
-  pub text : first_text (items_at line at) ≡ take (r.at - r.start) (drop r.start line)
-  pub items : items_at line r.at ≡ after (items_at line at)
+-- what a step leads to: what is read next, or a refusal
+abbrev pub resume : {A : Type 0} → Result A Refused → List Item → (A → List Item → Placed ℕ) → Placed ℕ
+resume (Ok x) xs next = next x xs
+resume (Err e) xs next = refused_at (number_of e.refusal) e.index
 
--- what a step leads to: the next place at an index, or a refusal
-abbrev pub resume : List ℕ → Step → (ℕ → List Item → Placed ℕ) → Placed ℕ
-resume line (Step.Value v at) next = next v (items_at line at)
-resume line (Step.Refused k column) next = refused_at k column
-
-abbrev pub step_bound : List ℕ → Step → Type 0
-step_bound line (Step.Value v at) = at ≤ length line
-step_bound line (Step.Refused k column) = 0 ≤ length line
-
-pub record Steps (line : List ℕ) (r : Step) (rule : (ℕ → List Item → Placed ℕ) → Placed ℕ) : Type 0 where
-  pub bound : step_bound line r
-  pub leads : (next : ℕ → List Item → Placed ℕ) → resume line r next ≡ rule next
+pub record Steps (before after : Items) (r : Result ℕ Refused) (rule : (ℕ → List Item → Placed ℕ) → Placed ℕ) : Type 0 where
+  pub line : past after ≡ past before
+  pub leads : (next : ℕ → List Item → Placed ℕ) → resume r (left after) next ≡ rule next

@@ -1,85 +1,54 @@
-// Names put as text, by their keys.
-ghost use Rattle.std.specs.Prelude.{◌≡◌, ◌+◌, ◌≤◌, length};
-ghost use Rattle.std.proofs.lemmas.List.Edits.{sets};
-ghost use Rattle.listing.specs.Keys.{text_of_key, after_blank, keys_line, PutAt};
+// Texts put into lent bytes.
+ghost use Rattle.std.specs.Prelude.{◌≡◌, ◌+◌, ◌≤◌, ◌++◌, length, take, drop};
+ghost use Rattle.listing.specs.Items.{joined};
+ghost use Rattle.listing.specs.Answers.{outcome, fill, printed_tells};
+ghost use Rattle.listing.specs.Told.{texts_told};
 
-use crate::Keys;
+use refusals::Refusal;
 
-// A key has at most as many bytes.
-const KEY_BYTES: usize = 8;
+// The texts of a line: of the family, of the mode, and of those fields that are written.
+#[derive(Clone, Copy)]
+pub(crate) struct Texts {
+    pub(crate) family: &'static [u8],
+    pub(crate) mode: &'static [u8],
+    pub(crate) a: Option<&'static [u8]>,
+    pub(crate) b: Option<&'static [u8]>,
+    pub(crate) c: Option<&'static [u8]>,
+}
 
-// How many bytes a key's text has.
-fn size(key: u64) -> usize
-    ensures { result ≡ length (text_of_key key) }
+// A text at an index of the bytes, and the index after it.
+fn put(text: &[u8], at: usize, out: &mut [u8]) -> usize
+    requires { at + length text.now ≤ length out.old }
+    ensures after { result ≡ at + length text.now }
+    ensures bytes { out.new ≡ take at out.old ++ text.now ++ drop (at + length text.now) out.old }
 {
-    let mut rest = key;
-    let mut left: usize = KEY_BYTES;
-    while 0 < left {
-        if rest == 0 {
-            return KEY_BYTES - left;
+    let end = at + text.len();
+    out[at..end].copy_from_slice(text);
+    end
+}
+
+// The line of some texts, and how many bytes it has.
+pub(crate) fn join(texts: Texts, out: &mut [u8]) -> usize
+    requires { length (joined (texts_told texts)) ≤ length out.old }
+    ensures size { result ≡ length (joined (texts_told texts)) }
+    ensures bytes { out.new ≡ joined (texts_told texts) ++ drop (length (joined (texts_told texts))) out.old }
+{
+    let mut size = put(texts.family, 0, out);
+    for text in [Some(texts.mode), texts.a, texts.b, texts.c] {
+        if let Some(text) = text {
+            out[size] = b' ';
+            size = put(text, size + 1, out);
         }
-        rest = rest / 256;
-        left -= 1;
     }
-    KEY_BYTES
+    size
 }
 
-// The same after a blank; nothing for no key.
-fn size_after(key: u64) -> usize
-    ensures { result ≡ length (after_blank key) }
+// A line at the front of lent bytes, and how many it has.
+pub(crate) fn fill(line: &[u8], out: &mut [u8]) -> Result<usize, Refusal>
+    ensures { outcome (printed_tells result) out.new ≡ fill line.now out.old }
 {
-    if key == 0 { 0 } else { 1 + size(key) }
-}
-
-// A key's text at a place of the bytes; the place after it.
-pub(crate) fn put(key: u64, at: usize, out: &mut [u8]) -> usize
-    requires { at + length (text_of_key key) ≤ length out.old }
-    ensures { PutAt (text_of_key key) at result out.old out.new }
-{
-    let mut rest = key;
-    let mut left: usize = KEY_BYTES;
-    let mut i: usize = at;
-    while 0 < left {
-        if rest == 0 {
-            return i;
-        }
-        out[i] = (rest % 256) as u8;
-        rest = rest / 256;
-        i += 1;
-        left -= 1;
+    if out.len() < line.len() {
+        return Err(Refusal::NoRoom);
     }
-    i
-}
-
-// The same after a blank; nothing for no key.
-fn put_after(key: u64, at: usize, out: &mut [u8]) -> usize
-    requires { at + length (after_blank key) ≤ length out.old }
-    ensures { PutAt (after_blank key) at result out.old out.new }
-{
-    if key == 0 {
-        return at;
-    }
-    out[at] = b' ';
-    put(key, at + 1, out)
-}
-
-pub(crate) fn line_size(keys: Keys) -> usize
-    ensures { result ≡ length (keys_line keys) }
-{
-    size(keys.family)
-        + size_after(keys.mode)
-        + size_after(keys.a)
-        + size_after(keys.b)
-        + size_after(keys.c)
-}
-
-pub(crate) fn put_line(keys: Keys, out: &mut [u8])
-    requires { length (keys_line keys) ≤ length out.old }
-    ensures { out.new ≡ sets out.old 0 (keys_line keys) }
-{
-    let at = put(keys.family, 0, out);
-    let at = put_after(keys.mode, at, out);
-    let at = put_after(keys.a, at, out);
-    let at = put_after(keys.b, at, out);
-    put_after(keys.c, at, out);
+    Ok(put(line, 0, out))
 }

@@ -15,15 +15,15 @@ use Rattle.choice.specs.Tells.{Tells, accepted, refused}
 use Rattle.choice.specs.Text.{newline, hex}
 use Rattle.choice.proofs.Tells.{accepted_one, refused_one, accepted_refused}
 use Rattle.isa.specs.declared.Named.{Named}
-use Rattle.isa.specs.Words.{decode_of, takes_immediate}
+use Rattle.isa.specs.Words.{decode_of}
 use Rattle.lines.specs.Lines.{word_refused_line}
-use Rattle.listing.specs.Lines.{line_by, line_of, texts_of, word_of}
+use Rattle.listing.specs.Lines.{line_by, line_of, texts_of}
 use Rattle.listing.specs.Items.{joined}
-use Rattle.listing.specs.Data.{data_line, data_of}
+use Rattle.listing.specs.Data.{data_line}
 use Rattle.listing.specs.Answers.{Outcome, outcome, fill, print_into, data_into}
 use Rattle.listing.proofs.Hex.{data_long}
 use Rattle.listing.proofs.Single.{line_short}
-use Rattle.listpages.specs.Entries.{instruction_line, entry_line, waits_after, refusal_at, line_tells}
+use Rattle.listpages.specs.Entries.{instruction_line}
 
 -- a line that filled bytes with room for its end: with the end put after it
 pub line_end : (t before after : List ℕ) (n : ℕ) → n ≡ length t → after ≡ t ++ drop (length t) before → n < length before
@@ -121,27 +121,3 @@ module _ (w : ℕ) (before after : List ℕ) (size : length before ≡ 24) where
           → word_refused_line k ≡ elim o as (λ (z : Option (List ℕ)). List ℕ) [ some line ↦ line ++ newline ∷ [] | none ↦ word_refused_line (line_of w).number ]
       by_value none q e = ap word_refused_line (refused_one {A = ℕ} k (line_of w).number (ap (λ (o : Outcome). o.told) e))
       by_value (some t) q e = absurd (fill_refused t before after k (omega (arith, size, line_short w t (line_told w t q))) e)
-
--- by whether an instruction waits
-module _ (waits : Bool) where
-  pub entry_data : (w : ℕ) → waits ≡ true → hex 4 w ++ newline ∷ [] ≡ entry_line waits w
-  unfolding entry_line
-  entry_data w e = rw e
-
-  pub entry_word : (w : ℕ) → waits ≡ false → instruction_line (line_of w) ≡ entry_line waits w
-  unfolding entry_line
-  entry_word w e = rw e
-
-  pub tells_data : (line : List ℕ) → waits ≡ true → data_of line ≡ line_tells waits line
-  unfolding line_tells
-  tells_data line e = rw e
-
-  pub tells_word : (line : List ℕ) → waits ≡ false → word_of line ≡ line_tells waits line
-  unfolding line_tells
-  tells_word line e = rw e
-
-  pub after_word_lem : (w : ℕ) → waits ≡ false → takes_immediate w ≡ waits_after waits w
-  after_word_lem w e = rw e
-
-  pub refusal_word : (w k : ℕ) → waits ≡ false → k ≡ (decode_of w).number → k ≡ refusal_at waits w
-  refusal_word w k e q = q ∙ rw e

@@ -1,6 +1,6 @@
 pub mod Walks
-pub mod Entered
 pub mod Lined
+pub mod Entered
 pub mod Longest
 pub mod Outs
 pub mod Unique

@@ -1,106 +1,49 @@
 -- The lines of a text, one after another.
 -- The law: `lines_append`.
-use mathlib.Core.Path.{◌≡◌, refl, sym, ap, ◌∙◌}
-use mathlib.Core.Bool.{Bool, true, false}
-use mathlib.Core.List.{List, [], ◌∷◌, ◌++◌, append-nil}
-use Prim.Native.Nat.{ℕ, suc, ◌+◌, ◌-◌, ◌<◌, ◌≤◌}
-use native.Mathlib.Omega.{arith}
+use Rattle.std.proofs.Common.{◌≡◌, refl, sym, ap, ◌∙◌, ℕ, suc, ◌+◌, ◌<◌, ◌≤◌, Bool, true, false, not, cond, List, [], ◌∷◌, ◌++◌, length, take, drop, eqb, ltb, ltb-false, Some, None, arith}
 use native.Mathlib.Numerals.{add-one}
-use lib.Dec.{eqb}
-use lib.ListN.{length, take, drop, get_or, length-take, length-drop, drop_of_length-le}
-use lib.Seq.{drop-cons, take-suc, get_or-drop}
+use Rattle.std.specs.Option.{unwrap_or}
+use Rattle.std.specs.List.{position_or_len}
+use Rattle.std.proofs.Math.Seq.{drop-drop}
 use Rattle.choice.specs.Pick.{pick}
 use Rattle.choice.specs.Text.{newline}
-use Rattle.listpages.specs.Answering.{in_front, lines_of, LineEnds}
+use Rattle.listpages.specs.Answering.{in_front, lines_of, line_end}
 
--- bytes without a line feed, in front of some lines
-abbrev all_in_front : List ℕ → List (List ℕ) → List (List ℕ)
-all_in_front [] lines = lines
-all_in_front (b ∷ bs) lines = in_front b (all_in_front bs lines)
+-- the end of the first line, said as a place
+abbrev end_of : List ℕ → ℕ
+end_of bytes = position_or_len (λ (b : ℕ). eqb b newline) bytes
 
-in_front_first : (b : ℕ) (bs line : List ℕ) (lines : List (List ℕ)) → all_in_front (b ∷ bs) (line ∷ lines) ≡ (b ∷ bs ++ line) ∷ lines
-in_front_first b [] line lines = refl
-in_front_first b (c ∷ bs) line lines = ap (in_front b) (in_front_first c bs line lines)
+end_le : (bytes : List ℕ) → end_of bytes ≤ length bytes
+end_le [] = omega arith
+end_le (b ∷ bytes) = by_test (eqb b newline) (end_le bytes)
+  where
+    by_test : (q : Bool) → end_of bytes ≤ length bytes → cond (not q) (1 + end_of bytes) 0 ≤ suc (length bytes)
+    by_test true h = omega arith
+    by_test false h = omega (arith, h)
 
-in_front_none : (b : ℕ) (bs : List ℕ) → all_in_front (b ∷ bs) [] ≡ (b ∷ bs) ∷ []
-in_front_none b [] = refl
-in_front_none b (c ∷ bs) = ap (in_front b) (in_front_none c bs)
+end_is : (bytes : List ℕ) → line_end bytes ≡ end_of bytes
+end_is bytes = by_test (ltb (end_of bytes) (length bytes)) refl
+  where
+    by_test : (q : Bool) → ltb (end_of bytes) (length bytes) ≡ q → unwrap_or (cond q (Some (end_of bytes)) None) (length bytes) ≡ end_of bytes
+    by_test true e = refl
+    by_test false e = omega (arith, end_le bytes, ltb-false (end_of bytes) (length bytes) e)
 
--- within a line that began at `from`: what was passed stands in front of what is to come
-pub record Within (bytes : List ℕ) (from i : ℕ) : Type 0 where
-  pub later : from ≤ i
-  pub bound : i ≤ length bytes
-  pub lines : lines_of (drop from bytes) ≡ all_in_front (take (i - from) (drop from bytes)) (lines_of (drop i bytes))
+-- of some bytes, by whether the first of them is a line feed
+first_by : (b : ℕ) (bytes : List ℕ) (q : Bool) → in_front b (lines_of bytes) ≡ (b ∷ take (end_of bytes) bytes) ∷ lines_of (drop (suc (end_of bytes)) bytes)
+    → pick q ([] ∷ lines_of bytes) (in_front b (lines_of bytes)) ≡ take (cond (not q) (1 + end_of bytes) 0) (b ∷ bytes) ∷ lines_of (drop (suc (cond (not q) (1 + end_of bytes) 0)) (b ∷ bytes))
+first_by b bytes true e = refl
+first_by b bytes false e =
+    let more : 1 + end_of bytes ≡ suc (end_of bytes) = omega arith in
+    rw more e
 
-pub within_start : (bytes : List ℕ) (from : ℕ) → from ≤ length bytes → Within bytes from from
-within_start bytes from h =
-    let z : from - from ≡ 0 = omega arith in
-    record { later = omega arith; bound = h; lines = rw z }
+first_line : (b : ℕ) (bytes : List ℕ) → lines_of (b ∷ bytes) ≡ take (end_of (b ∷ bytes)) (b ∷ bytes) ∷ lines_of (drop (suc (end_of (b ∷ bytes))) (b ∷ bytes))
+first_line b [] = first_by b [] (eqb b newline) refl
+first_line b (c ∷ bytes) = first_by b (c ∷ bytes) (eqb b newline) (ap (in_front b) (first_line c bytes))
 
-in_front_more : (bs : List ℕ) (b : ℕ) (lines : List (List ℕ)) → all_in_front (bs ++ b ∷ []) lines ≡ all_in_front bs (in_front b lines)
-in_front_more [] b lines = refl
-in_front_more (c ∷ bs) b lines = ap (in_front c) (in_front_more bs b lines)
-
-module _ (bytes : List ℕ) (from i : ℕ) (w : Within bytes from i) where
-  abbrev passed : List ℕ
-  passed = take (i - from) (drop from bytes)
-
-  one_more_lem : i < length bytes → take (suc i - from) (drop from bytes) ≡ passed ++ get_or bytes i 0 ∷ []
-  one_more_lem h =
-      let d : suc i - from ≡ suc (i - from) = omega (arith, w.later) in
-      let j : from + (i - from) ≡ i = omega (arith, w.later) in
-      let s : i - from < length (drop from bytes) = simp length-drop (omega (arith, w.later)) in
-      ap (λ (n : ℕ). take n (drop from bytes)) d
-      ∙ take-suc (drop from bytes) (i - from) 0 s
-      ∙ ap (λ (b : ℕ). passed ++ b ∷ []) (get_or-drop from bytes (i - from) 0 ∙ ap (λ (x : ℕ). get_or bytes x 0) j)
-
-  lines_here : (q : Bool) → i < length bytes → eqb (get_or bytes i 0) newline ≡ q
-      → lines_of (drop i bytes) ≡ pick q ([] ∷ lines_of (drop (suc i) bytes)) (in_front (get_or bytes i 0) (lines_of (drop (suc i) bytes)))
-  lines_here q h e =
-      ap lines_of (drop-cons bytes i 0 h)
-      ∙ ap (λ (q : Bool). pick q ([] ∷ lines_of (drop (suc i) bytes)) (in_front (get_or bytes i 0) (lines_of (drop (suc i) bytes)))) e
-
-  pub within_turn : i < length bytes → eqb (get_or bytes i 0) newline ≡ false → Within bytes from (i + 1)
-  within_turn h e = rw (add-one i) (record {
-    later = omega (arith, w.later);
-    bound = h;
-    lines =
-        w.lines
-        ∙ ap (all_in_front passed) (lines_here false h e)
-        ∙ sym (in_front_more passed (get_or bytes i 0) (lines_of (drop (suc i) bytes)))
-        ∙ ap (λ (t : List ℕ). all_in_front t (lines_of (drop (suc i) bytes))) (sym (one_more_lem h));
-  })
-
-  front_empty : (t : List ℕ) (lines : List (List ℕ)) → all_in_front t ([] ∷ lines) ≡ t ∷ lines
-  front_empty [] lines = refl
-  front_empty (b ∷ t) lines = in_front_first b t [] lines ∙ ap (λ (l : List ℕ). (b ∷ l) ∷ lines) (append-nil t)
-
-  pub ends_feed : i < length bytes → eqb (get_or bytes i 0) newline ≡ true → LineEnds bytes from i
-  ends_feed h e = record {
-    later = w.later;
-    bound = w.bound;
-    lines = w.lines ∙ ap (all_in_front passed) (lines_here true h e) ∙ front_empty passed (lines_of (drop (suc i) bytes));
-  }
-
-  front_nothing : (t : List ℕ) → 0 < length t → all_in_front t [] ≡ t ∷ []
-  front_nothing [] h = absurd (omega arith)
-  front_nothing (b ∷ t) h = in_front_none b t
-
-  pub ends_bytes : length bytes ≤ i → from < length bytes → LineEnds bytes from i
-  ends_bytes h f =
-      let here : drop i bytes ≡ [] = drop_of_length-le bytes h in
-      let l : length bytes ≤ suc i = omega arith in
-      let next : drop (suc i) bytes ≡ [] = drop_of_length-le bytes l in
-      let s : 0 < length passed = simp (length-take, length-drop) (omega (arith, w.later, w.bound)) in
-      record {
-        later = w.later;
-        bound = w.bound;
-        lines =
-            w.lines
-            ∙ ap (λ (d : List ℕ). all_in_front passed (lines_of d)) here
-            ∙ front_nothing passed s
-            ∙ ap (λ (d : List ℕ). passed ∷ lines_of d) (sym next);
-      }
+-- the first line of bytes that are some, and the others after its line feed
+pub first_of : (bytes : List ℕ) → 0 < length bytes → lines_of bytes ≡ take (line_end bytes) bytes ∷ lines_of (drop 1 (drop (line_end bytes) bytes))
+first_of [] h = absurd (omega arith)
+first_of (b ∷ bytes) h = rw (drop-drop 1 (line_end (b ∷ bytes)) (b ∷ bytes), add-one, end_is (b ∷ bytes)) (first_line b bytes)
 
 -- a text has no more lines than bytes
 pub lines_le : (bytes : List ℕ) → length (lines_of bytes) ≤ length bytes

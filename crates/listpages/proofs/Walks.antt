@@ -1,62 +1,25 @@
 -- Lines put one after another into a text, each by a state that the ones before it left: the law of both loops.
-use mathlib.Core.Path.{◌≡◌, refl, sym, ap, subst, ◌∙◌}
-use mathlib.Core.List.{List, [], ◌∷◌, ◌++◌, append_assoc, append-nil}
-use Prim.Native.Nat.{ℕ, ◌+◌, ◌-◌, ◌*◌, ◌≤◌}
+use Rattle.std.proofs.Common.{◌≡◌, sym, ap, ◌∙◌, ℕ, ◌+◌, ◌*◌, ◌≤◌, List, [], ◌∷◌, ◌++◌, append_assoc, append-nil, length, arith}
 use native.Mathlib.Nat.{mul-suc}
-use native.Mathlib.Omega.{arith}
-use lib.ListN.{length, take, drop, length-append}
-use Rattle.lines.specs.declared.Line.{Line}
-use Rattle.lines.specs.Answers.{Makes}
-use Rattle.lines.specs.Putting.{Puts}
-use Rattle.lines.proofs.Putting.{puts_both, puts_nothing}
-use Rattle.pages.specs.Writing.{bytes_in}
-use Rattle.pages.proofs.Together.{changed, made_at, made_long, made_bytes}
+use Rattle.std.proofs.lemmas.List.{length-append}
 use Rattle.listpages.specs.Walking.{text_from}
 
 module _ {S A : Type 0} (line : S → A → List ℕ) (next : S → A → S) where
-  -- some lines are put, and these make up the whole text with those still to come
-  pub record Walks (all start text : List ℕ) (at : ℕ) (s : S) (rest : List A) : Type 0 where
-    pub done : List ℕ
-    pub long : length text ≡ length start
-    pub put : Puts done 0 at start text
-    pub whole : done ++ text_from line next s rest ≡ all
-
-  pub begun : (start : List ℕ) (s : S) (xs : List A) → Walks (text_from line next s xs) start start 0 s xs
-  begun start s xs = record { done = []; long = refl; put = puts_nothing 0 start; whole = refl }
-
-  module _ {all start text : List ℕ} {at : ℕ} {s : S} {rest : List A} (w : Walks all start text at s rest) (enough : length all ≤ length start) where
-    total : length w.done + length (text_from line next s rest) ≡ length all
-    total = sym (length-append w.done (text_from line next s rest)) ∙ ap length w.whole
-
-    pub at_le : at ≤ length text
-    at_le = omega (arith, total, w.put.end, w.long, enough)
-
+  -- what is there and the text of the lines still to come are all
+  module _ (s : S) (rest : List A) (text all : List ℕ) (whole : text ++ text_from line next s rest ≡ all) where
     module _ (x : A) (xs : List A) (e : rest ≡ x ∷ xs) where
-      more : length (text_from line next s rest) ≡ length (line s x) + length (text_from line next (next s x) xs)
-      more = ap (λ (ys : List A). length (text_from line next s ys)) e ∙ length-append (line s x) (text_from line next (next s x) xs)
+      pub line_fits : (room : ℕ) → length all ≤ room → length text + length (line s x) ≤ room
+      line_fits room enough =
+          let later = text_from line next (next s x) xs in
+          let all_long : length text + (length (line s x) + length later) ≡ length all =
+          simp length-append at (ap length (ap (λ (ys : List A). text ++ text_from line next s ys) (sym e) ∙ whole)) in
+          omega (arith, all_long, enough)
 
-      pub room : at + length (line s x) ≤ length text
-      room = omega (arith, total, more, w.put.end, w.long, enough)
+      pub line_more : (more : List ℕ) → more ≡ text ++ line s x → more ++ text_from line next (next s x) xs ≡ all
+      line_more more f = rw (f, append_assoc) (ap (λ (ys : List A). text ++ text_from line next s ys) (sym e) ∙ whole)
 
-      module _ (r : Line) (part : List ℕ) (m : Makes (line s x) r (take (length text - at) (drop at text)) part) where
-        pub grown : at + bytes_in r ≤ length text
-        grown = omega (arith, made_bytes (line s x) r text part at at_le m room, room)
-
-        pub turn : Walks all start (changed text at part) (at + bytes_in r) (next s x) xs
-        turn = record {
-          done = w.done ++ line s x;
-          long = made_long (line s x) r text part at at_le m room ∙ w.long;
-          put = puts_both w.put (made_at (line s x) r text part at at_le m room);
-          whole =
-              append_assoc w.done (line s x) (text_from line next (next s x) xs)
-              ∙ ap (λ (ys : List A). w.done ++ text_from line next s ys) (sym e)
-              ∙ w.whole;
-        }
-
-    pub ended : rest ≡ [] → Puts all 0 at start text
-    ended e =
-        subst (λ (l : List ℕ). Puts l 0 at start text)
-        (sym (append-nil w.done) ∙ ap (λ (ys : List A). w.done ++ text_from line next s ys) (sym e) ∙ w.whole) w.put
+    pub lines_over : rest ≡ [] → text ≡ all
+    lines_over e = sym (append-nil text) ∙ ap (λ (ys : List A). text ++ text_from line next s ys) (sym e) ∙ whole
 
   -- no text is longer than its lines' bound times their number
   pub text_le : (most : ℕ) → ((s : S) (x : A) → length (line s x) ≤ most) → (s : S) (xs : List A) → length (text_from line next s xs) ≤ most * length xs

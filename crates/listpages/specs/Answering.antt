@@ -1,15 +1,15 @@
 -- What `readlist` writes of the lines of a listing (document 02, request 1), and how many of them it counts as refused.
-use Rattle.std.specs.Prelude.{◌≡◌, ℕ, suc, ◌-◌, ◌≤◌, Bool, List, [], ◌∷◌, eqb, length, take, drop}
+use Rattle.std.specs.Prelude.{◌≡◌, ℕ, Bool, List, [], ◌∷◌, ◌==◌, eqb, length, take, position}
+use Rattle.std.specs.Option.{unwrap_or}
 use Rattle.choice.specs.Pick.{pick}
+use Rattle.choice.specs.Tells.{Placed}
 use Rattle.choice.specs.Text.{newline}
 use Rattle.text.specs.Taking.{one_more}
 use Rattle.lines.specs.Answers.{Makes}
-use Rattle.lines.specs.Putting.{Puts}
 use Rattle.listpages.specs.declared.Reading.{Reading}
 use Rattle.listpages.specs.declared.LinesRead.{LinesRead}
-use Rattle.listpages.specs.declared.Joined.{Joined}
 use Rattle.listpages.specs.Walking.{text_from, state_after}
-use Rattle.listpages.specs.Entries.{answer_line, waits_next, is_refused}
+use Rattle.listpages.specs.Entries.{answer_line, waits_by, waits_next, is_none, is_refused}
 
 -- a byte in front of the first of some lines
 abbrev pub in_front : ℕ → List (List ℕ) → List (List ℕ)
@@ -50,12 +50,10 @@ pub record ReadsLines (s : Reading) (bytes : List ℕ) (r : LinesRead) (out out'
   pub reading : r.reading ≡ reading_after s (piece_lines bytes)
   pub written : Makes (answers_of s (piece_lines bytes)) r.output out out'
 
--- for the contracts of the parts: the end of the line that begins at an index, and all answers put into a text
-pub record LineEnds (bytes : List ℕ) (from r : ℕ) : Type 0 where
-  pub later : from ≤ r
-  pub bound : r ≤ length bytes
-  pub lines : lines_of (drop from bytes) ≡ take (r - from) (drop from bytes) ∷ lines_of (drop (suc r) bytes)
+-- for the contracts of the parts: the reader after a line by what it tells; and the end of the first line of some
+-- bytes, which is its line feed or the end of the bytes
+abbrev pub after_answer : Reading → Placed ℕ → Reading
+after_answer s p = record { waits = waits_by s.waits p.told.value; refused = counted (is_none p.told.value) s.refused }
 
-pub record JoinsAnswers (s : Reading) (bytes : List ℕ) (r : Joined) (text text' : List ℕ) : Type 0 where
-  pub reading : r.reading ≡ reading_after s (lines_of bytes)
-  pub put : Puts (answers_of s (lines_of bytes)) 0 r.at text text'
+abbrev pub line_end : List ℕ → ℕ
+line_end bytes = unwrap_or (position (λ b. b == newline) bytes) (length bytes)

@@ -1,15 +1,13 @@
 -- The line of one word of a trace in a listing, and the line that answers one line of a listing (document 02, request 1, and docs/DECISIONS.md).
-use Rattle.std.specs.Prelude.{◌≡◌, ℕ, Bool, true, false, List, [], ◌∷◌, ◌++◌}
+use Rattle.std.specs.Prelude.{ℕ, Bool, true, false, List, [], ◌∷◌, ◌++◌}
 use Rattle.std.proofs.Math.Option.{Option, none, some}
 use Rattle.choice.specs.Pick.{pick}
 use Rattle.choice.specs.Tells.{Tells, Placed}
 use Rattle.choice.specs.Text.{newline, hex}
 use Rattle.isa.specs.Words.{decode_of, takes_immediate}
-use Rattle.lines.specs.Answers.{Makes}
 use Rattle.lines.specs.Lines.{word_refused_line, refused_line}
 use Rattle.listing.specs.Lines.{line_of, word_of}
 use Rattle.listing.specs.Data.{data_line, data_of}
-use Rattle.listpages.specs.declared.Answer.{Answer}
 
 -- an instruction, or "refused" and its number
 abbrev pub instruction_line : Tells (List ℕ) → List ℕ
@@ -52,9 +50,3 @@ is_none (some w) = false
 
 unfoldable pub is_refused : Bool → List ℕ → Bool
 is_refused waits line = is_none (line_tells waits line).told.value
-
--- what the answer to a line is, for the contract of that part
-pub record Answers (waits : Bool) (line : List ℕ) (r : Answer) (out out' : List ℕ) : Type 0 where
-  pub made : Makes (answer_line waits line) r.line out out'
-  pub refused : r.refused ≡ is_refused waits line
-  pub next : r.waits ≡ waits_next waits line

@@ -1,10 +1,11 @@
 -- What `listtrace` writes of a trace, and what it says of it (document 02, request 1; what is said is ours, docs/DECISIONS.md).
-use Rattle.std.specs.Prelude.{ℕ, zero, suc, ◌+◌, Bool, false, List, [], ◌∷◌, eqb, length}
+use Rattle.std.specs.Prelude.{ℕ, zero, suc, ◌+◌, Bool, false, List, [], ◌∷◌, eqb, length, Option, Some, None}
 use Rattle.choice.specs.Pick.{pick}
 use Rattle.run.specs.Splitting.{cycle_at, cycles_in}
 use Rattle.trace.specs.Layout.{words_per_record}
 use Rattle.trace.specs.Reading.{read_words}
 use Rattle.lines.specs.declared.Program.TheVariants.{ListTrace}
+use Rattle.lines.specs.declared.Remark.{Remark}
 use Rattle.lines.specs.declared.Remark.TheVariants.{Refusal}
 use Rattle.lines.specs.Lines.{refused_line}
 use Rattle.lines.specs.Remarks.{remark_line}
@@ -35,6 +36,11 @@ said_from waits i (w ∷ ws) =
 
 unfoldable pub list_said : List ℕ → List ℕ
 list_said words = said_from false 0 (line_words words)
+
+-- for the contract of a part: what is said, if anything is
+abbrev pub said_by : Option Remark → List ℕ
+said_by None = []
+said_by (Some remark) = remark_line ListTrace remark
 
 -- of a trace: its cycles, or the one line of the refusal
 unfoldable pub listed_text : List ℕ → List ℕ

@@ -1,74 +1,70 @@
 // The lines of a listing, and their words.
-ghost use Rattle.std.specs.Prelude.{◌≡◌, ◌≤◌, ◌<◌, length, take};
-ghost use Rattle.listpages.specs.Answering.{piece_bytes, lines_of, counted, answers_of, ReadsLines, LineEnds, JoinsAnswers};
+ghost use Rattle.std.specs.Prelude.{◌≡◌, ◌+◌, ◌≤◌, ◌++◌, ◌==◌, length, position};
+ghost use Rattle.listing.specs.Answers.{read_tells};
+ghost use Rattle.listpages.specs.Answering.{lines_of, after_answer, answers_of, reading_after, line_end, ReadsLines};
 
-use crate::{Joined, LinesRead, Reading, entries};
+use crate::draft::Draft;
+use crate::{LinesRead, Reading, entries};
+use refusals::Refused;
 
 // The most bytes that are taken at once, and room for their answers: a line has at least its end, and no answer is longer than 53 bytes.
 pub const PIECE_BYTES: usize = 4096;
 
 pub const ANSWER_BYTES: usize = 53 * PIECE_BYTES;
 
-// The end of the line that begins at `from`: its line feed, or the end of the bytes.
-fn line_end(bytes: &[u8], from: usize) -> usize
-    requires { from < length bytes.now }
-    ensures { LineEnds bytes.now from result }
+// The first line feed of some bytes.
+fn line_feed(bytes: &[u8]) -> Option<usize>
+    ensures { result ≡ position (λ b. b == 10) bytes.now }
 {
-    let mut i: usize = from;
-    while i < bytes.len() {
-        if bytes[i] == b'\n' {
-            return i;
-        }
-        i += 1;
-    }
-    i
+    bytes.iter().position(|byte| *byte == b'\n')
 }
 
-// How many of the bytes are taken.
-fn piece_end(bytes: &[u8]) -> usize
-    ensures { result ≡ length (take piece_bytes bytes.now) }
+// The end of the first line of some bytes: its line feed, or the end of the bytes.
+fn line_end(bytes: &[u8]) -> usize
+    ensures { result ≡ line_end bytes.now }
 {
-    if bytes.len() < PIECE_BYTES {
-        bytes.len()
-    } else {
-        PIECE_BYTES
-    }
+    line_feed(bytes).unwrap_or(bytes.len())
 }
 
-// One more, where a line was refused.
-fn count(refused: bool, k: u64) -> u64
-    ensures { result ≡ counted refused k }
-{
-    if refused {
-        if k < u64::MAX {
-            return k + 1;
+impl Reading {
+    // The reader after a line, by what it tells.
+    fn after(self, read: Result<u16, Refused>) -> Reading
+        ensures { result ≡ after_answer self (read_tells read) }
+    {
+        match read {
+            Ok(word) => Reading {
+                waits: entries::waits_after(self.waits, word),
+                ..self
+            },
+            Err(_) => Reading {
+                waits: false,
+                refused: self.refused.saturating_add(1),
+            },
         }
     }
-    k
 }
 
-// The answers to the lines of some bytes, one after another.
-fn join_answers(reading: Reading, bytes: &[u8], text: &mut [u8]) -> Joined
-    requires { length (answers_of reading (lines_of bytes.now)) ≤ length text.old }
-    ensures { JoinsAnswers reading bytes.now result text.old text.new }
-{
-    let mut state = reading;
-    let mut at: usize = 0;
-    let mut from: usize = 0;
-    while from < bytes.len() {
-        let end = line_end(bytes, from);
-        let answer = entries::answer_line(state.waits, &bytes[from..end], &mut text[at..]);
-        let line = answer.line;
-        at += entries::bytes_in(line);
-        state = Reading {
-            waits: answer.waits,
-            refused: count(answer.refused, state.refused),
-        };
-        from = end + 1;
-    }
-    Joined {
-        reading: state,
-        at: at,
+impl<const N: usize> Draft<N> {
+    // The answers to the lines of some bytes, one after another; and the reader after them.
+    fn add_answers(&mut self, reading: Reading, bytes: &[u8]) -> Reading
+        requires { length self.old + length (answers_of reading (lines_of bytes.now)) ≤ N }
+        ensures text { self.new ≡ self.old ++ answers_of reading (lines_of bytes.now) }
+        ensures reading { result ≡ reading_after reading (lines_of bytes.now) }
+    {
+        let mut state = reading;
+        let mut rest = bytes;
+        // as `lines_of` cuts them: the last line may lack its end
+        while !rest.is_empty() {
+            let (line, others) = rest.split_at(line_end(rest));
+            let read = entries::read_line(state.waits, line);
+            self.add(|room| entries::answer_line(read, room));
+            state = state.after(read);
+            rest = match others {
+                [_, more @ ..] => more,
+                [] => others,
+            };
+        }
+        state
     }
 }
 
@@ -76,13 +72,11 @@ fn join_answers(reading: Reading, bytes: &[u8], text: &mut [u8]) -> Joined
 pub fn read_lines(reading: Reading, bytes: &[u8], out: &mut [u8]) -> LinesRead
     ensures { ReadsLines reading bytes.now result out.old out.new }
 {
-    let mut text = [0u8; ANSWER_BYTES];
-    let end = piece_end(bytes);
-    let joined = join_answers(reading, &bytes[..end], &mut text);
-    let at = joined.at;
-    let next = joined.reading;
+    let mut text = Draft::<ANSWER_BYTES>::new();
+    let piece = &bytes[..PIECE_BYTES.min(bytes.len())];
+    let next = text.add_answers(reading, piece);
     LinesRead {
         reading: next,
-        output: lines::hand_over(&text[..at], out),
+        output: text.hand_over(out),
     }
 }

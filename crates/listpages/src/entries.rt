@@ -2,56 +2,40 @@
 ghost use Rattle.std.specs.Prelude.{◌≡◌, [], ◌∷◌, ◌++◌};
 ghost use Rattle.choice.specs.Text.{newline, hex};
 ghost use Rattle.lines.specs.Answers.{Makes};
-ghost use Rattle.pages.specs.Writing.{bytes_in};
 ghost use Rattle.listing.specs.Answers.{read_tells};
-ghost use Rattle.listpages.specs.Entries.{entry_line, instruction_line, line_tells, waits_after, Answers};
 ghost use Rattle.listing.specs.Lines.{line_of};
+ghost use Rattle.listpages.specs.Entries.{entry_line, instruction_line, line_tells, waits_after, answer_by};
 
-use crate::Answer;
-use lines::Line;
-use listing::{Printed, Read};
+use refusals::Refused;
 use run::Ending;
 
-// How many bytes a line has: 0 where the slice was too short.
-pub(crate) fn bytes_in(line: Line) -> usize
-    ensures { result ≡ bytes_in line }
-{
-    match line {
-        Line::Made(n) => n,
-        Line::NoRoom => 0,
-    }
-}
-
 // Four hex digits and the line's end.
-fn hex_line(word: u16, out: &mut [u8]) -> Line
+fn hex_line(word: u16, out: &mut [u8]) -> Option<usize>
     ensures { Makes (hex 4 word ++ newline ∷ []) result out.old out.new }
 {
     let mut line = [0u8; listing::DATA_BYTES + 1];
-    listing::data_line(word, &mut line);
+    let _ = listing::data_line(word, &mut line);
     line[listing::DATA_BYTES] = b'\n';
     lines::hand_over(&line, out)
 }
 
 // An instruction, or its refusal.
-fn instruction_line(word: u16, out: &mut [u8]) -> Line
+fn instruction_line(word: u16, out: &mut [u8]) -> Option<usize>
     ensures { Makes (instruction_line (line_of word)) result out.old out.new }
 {
     let mut line = [0u8; listing::LINE_BYTES + 1];
     match listing::line_of(word, &mut line) {
-        Printed::Refused(number) => lines::word_refused_line(number, out),
-        Printed::Filled(n) => {
-            if listing::LINE_BYTES < n {
-                return Line::NoRoom;
-            }
+        Ok(n) => {
             line[n] = b'\n';
-            let end = n + 1;
-            lines::hand_over(&line[..end], out)
+            lines::hand_over(&line[..n + 1], out)
         }
+        Err(refusal) => lines::word_refused_line(u8::from(refusal), out),
     }
 }
 
 // The line of a word: data where an instruction waits for its operand, or an instruction.
-pub(crate) fn entry_line(waits: bool, word: u16, out: &mut [u8]) -> Line
+#[tactic(auto, unfolding(crate::specs::Entries::entry_line))]
+pub(crate) fn entry_line(waits: bool, word: u16, out: &mut [u8]) -> Option<usize>
     ensures { Makes (entry_line waits word) result out.old out.new }
 {
     if waits {
@@ -62,7 +46,8 @@ pub(crate) fn entry_line(waits: bool, word: u16, out: &mut [u8]) -> Line
 }
 
 // What a line of a listing tells.
-fn read_line(waits: bool, line: &[u8]) -> Read
+#[tactic(auto, unfolding(crate::specs::Entries::line_tells))]
+pub(crate) fn read_line(waits: bool, line: &[u8]) -> Result<u16, Refused>
     ensures { read_tells result ≡ line_tells waits line.now }
 {
     if waits {
@@ -76,27 +61,18 @@ fn read_line(waits: bool, line: &[u8]) -> Read
 pub(crate) fn waits_after(waits: bool, word: u16) -> bool
     ensures { result ≡ waits_after waits word }
 {
-    if waits {
-        false
-    } else {
-        isa::takes_immediate(word)
-    }
+    !waits && isa::takes_immediate(word)
 }
 
-// The answer to a line.
-pub(crate) fn answer_line(waits: bool, line: &[u8], out: &mut [u8]) -> Answer
-    ensures { Answers waits line.now result out.old out.new }
+// The answer to a line, by what it tells.
+pub(crate) fn answer_line(read: Result<u16, Refused>, out: &mut [u8]) -> Option<usize>
+    ensures { Makes (answer_by (read_tells read)) result out.old out.new }
 {
-    match read_line(waits, line) {
-        Read::Word(word) => Answer {
-            line: hex_line(word, out),
-            refused: false,
-            waits: waits_after(waits, word),
-        },
-        Read::Refused(number, column) => Answer {
-            line: lines::last_line(Ending::Refused(number, column), 0, out),
-            refused: true,
-            waits: false,
-        },
+    match read {
+        Ok(word) => hex_line(word, out),
+        Err(refused) => {
+            let ending = Ending::Refused(u8::from(refused.refusal), refused.index);
+            lines::last_line(ending, 0, out)
+        }
     }
 }

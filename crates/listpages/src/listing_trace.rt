@@ -1,20 +1,19 @@
 // A trace, and its listing.
-ghost use Rattle.std.specs.Prelude.{◌≡◌, ◌*◌, ◌≤◌, ◌<◌, length};
-ghost use Rattle.run.specs.Splitting.{cycles_in};
+ghost use Rattle.std.specs.Prelude.{◌≡◌, ◌+◌, ◌*◌, ◌≤◌, ◌++◌, length};
+ghost use Rattle.isa.specs.Table.{numbered};
 ghost use Rattle.run.specs.Runs.{most_cycles};
 ghost use Rattle.trace.specs.Layout.{words_per_record};
 ghost use Rattle.lines.specs.Answers.{Makes};
-ghost use Rattle.lines.specs.Putting.{Puts};
 ghost use Rattle.pages.specs.Writing.{Writes};
 ghost use Rattle.listpages.specs.Entries.{refusal_at};
-ghost use Rattle.listpages.specs.Listing.{line_word, list_text, list_said, listed_text, listed_said};
+ghost use Rattle.listpages.specs.Listing.{list_text, list_said, said_by, listed_text, listed_said};
 
+use crate::draft::Draft;
 use crate::entries;
-use isa::Decoded;
-use lines::{Line, Program, Remark};
+use lines::{Program, Remark};
 use pages::Written;
+use refusals::Refusal;
 use run::{Ending, MOST_CYCLES, WORDS_PER_CYCLE};
-use trace::Filled;
 
 // The most bytes of a line: 24, and 29 for any number that a word could be refused with.
 const LINE_BYTES: usize = 29;
@@ -22,75 +21,59 @@ const LINE_BYTES: usize = 29;
 // Room for the listing of every trace.
 pub const LIST_BYTES: usize = LINE_BYTES * MOST_CYCLES;
 
-// The number of a word that is refused, or 0.
-fn refusal_at(waits: bool, word: u16) -> u8
-    ensures { result ≡ refusal_at waits word }
+// Why a word is refused; data never is.
+fn refusal_at(waits: bool, word: u16) -> Option<Refusal>
+    ensures { numbered result ≡ refusal_at waits word }
 {
-    if waits {
-        return 0;
-    }
-    match isa::decode(word) {
-        Decoded::Accepted(_) => 0,
-        Decoded::Refused(number) => number,
+    if waits { None } else { isa::decode(word).err() }
+}
+
+impl<const N: usize> Draft<N> {
+    // The lines of some cycle words one after another.
+    fn add_lines(&mut self, words: &[u16])
+        requires { length self.old + length (list_text words.now) ≤ N }
+        ensures { self.new ≡ self.old ++ list_text words.now }
+    {
+        let (cycles, _) = words.as_chunks::<WORDS_PER_CYCLE>();
+        let mut waits = false;
+        for &[word, _, _] in cycles {
+            self.add(|room| entries::entry_line(waits, word, room));
+            waits = entries::waits_after(waits, word);
+        }
     }
 }
 
-fn line_word(words: &[u16], i: usize) -> u16
-    requires { i < cycles_in (length words.now) }
-    ensures { result ≡ line_word words.now i }
+// Why the first refused word is refused, if one is.
+fn first_refused(words: &[u16]) -> Option<Remark>
+    ensures { said_by result ≡ list_said words.now }
 {
-    words[WORDS_PER_CYCLE * i]
-}
-
-// The lines of some cycle words one after another.
-fn join_lines(words: &[u16], text: &mut [u8]) -> usize
-    requires { length (list_text words.now) ≤ length text.old }
-    ensures { Puts (list_text words.now) 0 result text.old text.new }
-{
-    let count = words.len() / WORDS_PER_CYCLE;
+    let (cycles, _) = words.as_chunks::<WORDS_PER_CYCLE>();
     let mut waits = false;
-    let mut at: usize = 0;
-    let mut i: usize = 0;
-    while i < count {
-        let word = line_word(words, i);
-        let line = entries::entry_line(waits, word, &mut text[at..]);
-        at += entries::bytes_in(line);
-        waits = entries::waits_after(waits, word);
-        i += 1;
-    }
-    at
-}
-
-// Of the first refused word it is said why.
-fn say_refused_word(words: &[u16], said: &mut [u8]) -> Line
-    ensures { Makes (list_said words.now) result said.old said.new }
-{
-    let count = words.len() / WORDS_PER_CYCLE;
-    let mut waits = false;
-    let mut i: usize = 0;
-    while i < count {
-        let word = line_word(words, i);
-        let refusal = refusal_at(waits, word);
-        if refusal != 0 {
-            return lines::remark_line(
-                Program::ListTrace,
-                Remark::Refusal(refusal, i, word, 0),
-                said,
-            );
+    for (i, &[word, _, _]) in cycles.iter().enumerate() {
+        if let Some(refusal) = refusal_at(waits, word) {
+            return Some(Remark::Refusal(u8::from(refusal), i, word, 0));
         }
         waits = entries::waits_after(waits, word);
-        i += 1;
     }
-    Line::Made(0)
+    None
 }
 
-fn list_words(words: &[u16], out: &mut [u8]) -> Line
+fn say_refused_word(words: &[u16], said: &mut [u8]) -> Option<usize>
+    ensures { Makes (list_said words.now) result said.old said.new }
+{
+    match first_refused(words) {
+        Some(remark) => lines::remark_line(Program::ListTrace, remark, said),
+        None => Some(0),
+    }
+}
+
+fn list_words(words: &[u16], out: &mut [u8]) -> Option<usize>
     requires { length words.now ≤ words_per_record * most_cycles }
     ensures { Makes (list_text words.now) result out.old out.new }
 {
-    let mut text = [0u8; LIST_BYTES];
-    let n = join_lines(words, &mut text);
-    lines::hand_over(&text[..n], out)
+    let mut text = Draft::<LIST_BYTES>::new();
+    text.add_lines(words);
+    text.hand_over(out)
 }
 
 // The listing of a trace: a line for each cycle. A trace that the reader refuses has that one line.
@@ -99,22 +82,17 @@ pub fn list_trace(trace: &[u8], out: &mut [u8], said: &mut [u8]) -> Written
 {
     let mut cycles = [0u16; trace::CYCLE_WORDS];
     match trace::read(trace, &mut cycles) {
-        Filled::Refused(number, index) => {
-            let output = lines::last_line(Ending::Refused(number, index), 0, out);
+        Ok(n) => Written {
+            output: list_words(&cycles[..n], out),
+            said: say_refused_word(&cycles[..n], said),
+        },
+        // pages says a refusal of the reader so too, for a program of its own.
+        Err(refused) => {
+            let number = u8::from(refused.refusal);
+            let remark = Remark::Refusal(number, refused.index, 0, 0);
             Written {
-                output: output,
-                said: lines::remark_line(
-                    Program::ListTrace,
-                    Remark::Refusal(number, index, 0, 0),
-                    said,
-                ),
-            }
-        }
-        Filled::Accepted(n) => {
-            let output = list_words(&cycles[..n], out);
-            Written {
-                output: output,
-                said: say_refused_word(&cycles[..n], said),
+                output: lines::last_line(Ending::Refused(number, refused.index), 0, out),
+                said: lines::remark_line(Program::ListTrace, remark, said),
             }
         }
     }

@@ -5,12 +5,4 @@ mod listing_trace; // listing_trace.rt: a trace in, its listing out
 mod reading_list; // reading_list.rt: a listing in, its words out
 
 pub use listing_trace::list_trace;
-use listpages::Reading;
 pub use reading_list::read_list;
-
-// The reader after some lines, and whether their answers were written.
-#[derive(Clone, Copy)]
-pub(crate) struct Answered {
-    pub(crate) reading: Reading,
-    pub(crate) written: bool,
-}

@@ -1,8 +1,8 @@
 // A listing in, its words out. The bytes are taken in pieces of whole lines, and what is left of a piece stands in front of the next.
 ghost use Rattle.std.specs.Prelude.{◌≤◌, length};
+ghost use Rattle.streams.specs.Reading.{bytes_read};
 
-use crate::Answered;
-use files::{Files, Input};
+use files::{Files, ReadFailed, WriteFailed};
 use lines::{Program, Remark};
 use listpages::{PIECE_BYTES, Reading};
 use std::io::{Read, Write};
@@ -22,66 +22,56 @@ fn move_rest(bytes: &mut [u8], cut: usize) -> usize
     requires { cut ≤ length bytes.old }
     ensures { result ≤ length bytes.old }
 {
-    let count = bytes.len() - cut;
-    for i in 0..count {
-        bytes[i] = bytes[cut + i];
-    }
-    count
+    bytes.copy_within(cut.., 0);
+    bytes.len() - cut
 }
 
-// Reads more bytes after those that are held.
-fn fill_rest<R: Read>(input: &mut R, bytes: &mut [u8], held: usize) -> Input
+// Reads more bytes after those that are held, and answers how many are held then.
+fn fill_rest<R: Read>(input: &mut R, bytes: &mut [u8], held: usize) -> Result<usize, ReadFailed>
     requires { held ≤ length bytes.old }
-    ensures { result.bytes ≤ length bytes.old }
+    ensures { bytes_read result ≤ length bytes.old }
 {
-    let read = files::fill(input, &mut bytes[held..]);
-    Input {
-        bytes: held + read.bytes,
-        failed: read.failed,
+    match files::fill(input, &mut bytes[held..]) {
+        Ok(more) => Ok(held + more),
+        Err(failed) => Err(ReadFailed {
+            bytes: held + failed.bytes,
+        }),
     }
 }
 
-// Writes the answers to some lines. Where that cannot be done, it is said.
+// Writes the answers to some lines, and gives the reader after them. Where they cannot be written, that is said.
 fn answer<R, W: Write, E: Write>(
     reading: Reading,
     bytes: &[u8],
     files: &mut Files<R, W, E>,
-) -> Answered {
+) -> Result<Reading, WriteFailed> {
     let mut text = [0u8; listpages::ANSWER_BYTES];
     let read = listpages::read_lines(reading, bytes, &mut text);
-    let next = read.reading;
-    let output = read.output;
-    let written = files::write_made(&mut files.output, output, &text);
-    if !written {
+    let written = files::write_made(&mut files.output, read.output, &text);
+    if written.is_err() {
         files::say(Program::ReadList, Remark::NoOutput, &mut files.errors);
     }
-    Answered {
-        reading: next,
-        written: written,
+    written.map(|()| read.reading)
+}
+
+// The last bytes of a listing: the line at their end need not be whole.
+fn end_list<R, W: Write, E: Write>(reading: Reading, bytes: &[u8], files: &mut Files<R, W, E>) {
+    if let Ok(Reading { refused, .. }) = answer(reading, bytes, files) {
+        if refused > 0 {
+            files::say(
+                Program::ReadList,
+                Remark::Unread(refused),
+                &mut files.errors,
+            );
+        }
     }
 }
 
-// The last bytes of a listing: the line at their end need not be whole. After a failed read only whole lines are answered.
-fn end_list<R, W: Write, E: Write>(
-    reading: Reading,
-    bytes: &[u8],
-    failed: bool,
-    files: &mut Files<R, W, E>,
-) {
-    if failed {
-        let cut = whole_lines(bytes);
-        answer(reading, &bytes[..cut], files);
-        return files::say(Program::ReadList, Remark::NoInput, &mut files.errors);
-    }
-    let last = answer(reading, bytes, files);
-    let next = last.reading;
-    if last.written && next.refused > 0 {
-        files::say(
-            Program::ReadList,
-            Remark::Unread(next.refused),
-            &mut files.errors,
-        );
-    }
+// The last bytes before a read failed: only whole lines are answered.
+fn break_off<R, W: Write, E: Write>(reading: Reading, bytes: &[u8], files: &mut Files<R, W, E>) {
+    let cut = whole_lines(bytes);
+    let _ = answer(reading, &bytes[..cut], files);
+    files::say(Program::ReadList, Remark::NoInput, &mut files.errors);
 }
 
 // Takes a listing piece by piece.
@@ -93,20 +83,19 @@ fn take_lines<R: Read, W: Write, E: Write>(files: &mut Files<R, W, E>, bytes: &m
     let mut held: usize = 0;
     // more pieces than there is time for
     for _ in 0..u64::MAX {
-        let input = fill_rest(&mut files.input, bytes, held);
-        let n = input.bytes;
-        if n < bytes.len() {
-            return end_list(state, &bytes[..n], input.failed, files);
+        match fill_rest(&mut files.input, bytes, held) {
+            Err(failed) => return break_off(state, &bytes[..failed.bytes], files),
+            Ok(size) if size < bytes.len() => return end_list(state, &bytes[..size], files),
+            Ok(_) => {}
         }
         let cut = whole_lines(bytes);
         if cut == 0 {
             return files::say(Program::ReadList, Remark::LongLine, &mut files.errors);
         }
-        let next = answer(state, &bytes[..cut], files);
-        if !next.written {
+        let Ok(next) = answer(state, &bytes[..cut], files) else {
             return;
-        }
-        state = next.reading;
+        };
+        state = next;
         held = move_rest(bytes, cut);
     }
 }

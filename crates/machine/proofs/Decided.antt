@@ -1,18 +1,23 @@
--- The judge's ways out, from the numbers and tests that it took: each is what the list of checks says.
-use mathlib.Core.Path.{◌≡◌, refl, ◌∙◌, sym, ap}
+-- The judge's ways out: what the pins and the word are refused with, or that they are not, gives the judgement.
+use mathlib.Core.Path.{◌≡◌, ◌∙◌, sym, ap}
 use mathlib.Core.Bool.{Bool, true, false, not}
 use mathlib.Core.List.{List, [], ◌∷◌}
 use Prim.Native.Nat.{ℕ, ◌<◌}
 use lib.Dec.{eqb}
-use borrow.Author.Tests.{eq-eqb, ne_eqb, eqb-true, eqb-false}
+use borrow.Author.Tests.{ne_eqb}
+use Rattle.std.specs.Prelude.{Ok}
 use Rattle.choice.specs.Pick.{pick}
 use Rattle.choice.specs.Checks.{Check, check, refusal}
+use Rattle.choice.specs.Tells.{Tells, accepted, refused}
 use Rattle.choice.proofs.Checks.{held, passed, ahead, behind}
-use Rattle.choice.proofs.Picks.{picked, unpicked}
-use Rattle.choice.proofs.Tells.{told_number}
-use Rattle.isa.specs.declared.Lookup.{Lookup}
-use Rattle.isa.specs.Words.{decode_of, lookup_of, word_checks, named_by, names_i as wordNamesI, takes_immediate}
-use Rattle.isa.proofs.Answers.{decode_accepted, decode_refused}
+use Rattle.choice.proofs.Picks.{unpicked}
+use Rattle.choice.proofs.Tells.{told_accepted}
+use Rattle.refusals.specs.declared.Refusal.{Refusal}
+use Rattle.refusals.specs.declared.Refusal.TheVariants.{NothingToOperate, DisabledImmediate}
+use Rattle.refusals.specs.Numbers.{number_of}
+use Rattle.refusals.proofs.Laws.{number_of_positive}
+use Rattle.isa.specs.declared.Named.{Named}
+use Rattle.isa.specs.Words.{decode_of, word_checks, named_by, names_i as wordNamesI, takes_immediate}
 use Rattle.plan.specs.declared.Plan.{Plan}
 use Rattle.plan.specs.Plans.{plan_of}
 use Rattle.plan.specs.Reading.{names_i}
@@ -20,99 +25,110 @@ use Rattle.plan.proofs.Laws.{word_immediate}
 use Rattle.machine.specs.declared.Waiting.{Waiting}
 use Rattle.machine.specs.declared.Waiting.TheVariants.{Nothing, Held}
 use Rattle.machine.specs.declared.Words.{Words}
-use Rattle.machine.specs.declared.Verdict.{Verdict}
 use Rattle.machine.specs.Pins.{ien_high}
-use Rattle.machine.specs.Judging.{Judgement, Refuse, Wait, Perform, pin_checks, checks_of, judgement_of, judged, word_about}
-use Rattle.machine.specs.Deciding.{immediate_in, only_begins, begin_by, cycle_by, verdict_of}
+use Rattle.machine.specs.Deciding.{Planned}
+use Rattle.machine.specs.Judging.{Refuse, Wait, Perform, pin_checks, begin_checks, second_checks, checks_of, accepted_as, judged, judgement_of}
 
--- a cycle with nothing waiting: the pins, then the word's own number, then IEN
-module _ (fault : ℕ) (asks : Bool) (pins number : ℕ) (e : number ≡ refusal (pin_checks pins [])) where
-  abbrev late : List Check
-  late = check 10 (pick asks (ien_high pins) false) ∷ []
+-- what the checks give is the judgement
+refused_by : (x : Waiting) (c : Words) (k : Refusal) → refusal (checks_of x c) ≡ number_of k → judgement_of x c ≡ Refuse (number_of k)
+unfolding judgement_of
+refused_by x c k e =
+    ap (λ (i : ℕ). judged i (accepted_as x c)) e
+    ∙ unpicked (eqb (number_of k) 0) (accepted_as x c) (Refuse (number_of k)) (ne_eqb (number_of k) 0 (number_of_positive k))
+
+accepted_by : (x : Waiting) (c : Words) → refusal (checks_of x c) ≡ 0 → judgement_of x c ≡ accepted_as x c
+unfolding judgement_of
+accepted_by x c e = ap (λ (i : ℕ). judged i (accepted_as x c)) e
+
+-- the pins are refused before any other check
+pins_first : (pins : ℕ) (rest : List Check) (k : Refusal) → number_of k ≡ refusal (pin_checks pins []) → refusal (pin_checks pins rest) ≡ number_of k
+pins_first pins rest k e = ahead (pin_checks pins []) rest (λ z. number_of_positive k (e ∙ z)) ∙ sym e
+
+past_pins : (pins : ℕ) (rest : List Check) → 0 ≡ refusal (pin_checks pins []) → refusal (pin_checks pins rest) ≡ refusal rest
+past_pins pins rest e = behind (pin_checks pins []) rest tt (sym e)
+
+-- a word that is refused takes no I operand
+refused_none : (w k : ℕ) → decode_of w ≡ refused k → takes_immediate w ≡ false
+unfolding takes_immediate
+refused_none w k e = ap (λ (t : Tells Named). wordNamesI t.value) e
+
+-- an accepted one is planned, and is the instruction that it names
+pub planned_right : (w : ℕ) → w < 0x10000 → (n : Named) (p : Plan) → decode_of w ≡ accepted n → p ≡ plan_of n → Planned w (Ok (n, p))
+planned_right w h n p e f = (e, f, word_immediate w h n e ∙ ap (λ (p : Plan). names_i p.work) (sym f))
+
+pub named_right : (w : ℕ) (n : Named) → decode_of w ≡ accepted n → n ≡ named_by w
+unfolding decode_of
+named_right w n e = sym (told_accepted (refusal (word_checks w)) (named_by w) n e).1
+
+-- with nothing waiting
+module _ (x : Waiting) (c : Words) (idle : x ≡ Nothing) where
+  abbrev late : Bool → List Check
+  late asks = check 10 (pick asks (ien_high c.pins) false) ∷ []
 
   abbrev rest : List Check
-  rest = check fault (not (eqb fault 0)) ∷ late
+  rest = check (decode_of c.lines).number (not (eqb (decode_of c.lines).number 0)) ∷ late (takes_immediate c.lines)
 
-  pub begin_pins : (number ≡ 0 → ⊥) → number ≡ begin_by fault asks pins
-  begin_pins n = e ∙ sym (ahead (pin_checks pins []) rest (λ z. n (e ∙ z)))
+  begin_refused : (k : Refusal) → refusal (begin_checks c) ≡ number_of k → judgement_of x c ≡ Refuse (number_of k)
+  begin_refused k e = refused_by x c k (ap (λ (x : Waiting). refusal (checks_of x c)) idle ∙ e)
 
-  past_pins : number ≡ 0 → begin_by fault asks pins ≡ refusal rest
-  past_pins z = behind (pin_checks pins []) rest tt (sym e ∙ z)
+  pub begin_pins : (k : Refusal) → number_of k ≡ refusal (pin_checks c.pins []) → judgement_of x c ≡ Refuse (number_of k)
+  begin_pins k e = begin_refused k (pins_first c.pins rest k e)
 
-  pub begin_fault : number ≡ 0 → (fault ≡ 0 → ⊥) → fault ≡ begin_by fault asks pins
-  begin_fault z n = sym (past_pins z ∙ held fault (not (eqb fault 0)) late (ap not (ne_eqb fault 0 n)))
+  module _ (good : 0 ≡ refusal (pin_checks c.pins [])) where
+    pub begin_word : (k : Refusal) → decode_of c.lines ≡ refused (number_of k) → judgement_of x c ≡ Refuse (number_of k)
+    begin_word k e =
+        begin_refused k (past_pins c.pins rest good
+        ∙ ap (λ (t : Tells Named). refusal (check t.number (not (eqb t.number 0)) ∷ late (takes_immediate c.lines))) e
+        ∙ held (number_of k) (not (eqb (number_of k) 0)) (late (takes_immediate c.lines)) (ap not (ne_eqb (number_of k) 0 (number_of_positive k))))
 
-  -- the number of the last check, once its condition is known
-  pub begin_late : number ≡ 0 → fault ≡ 0 → (b : Bool) → pick asks (ien_high pins) false ≡ b → refusal (check 10 b ∷ []) ≡ begin_by fault asks pins
-  begin_late z y b q =
-      ap (λ (b : Bool). refusal (check 10 b ∷ [])) (sym q)
-      ∙ sym (past_pins z ∙ passed fault (not (eqb fault 0)) late (ap not (eq-eqb fault 0 y)))
+    module _ (n : Named) (p : Plan) (e : Planned c.lines (Ok (n, p))) (begins : Bool)
+        (b : begins ≡ names_i p.work) where
+      begun : takes_immediate c.lines ≡ begins
+      begun = e.2 ∙ sym b
 
--- a word, what was found of it, and its plan: it asks for an I operand if it is not refused and the plan names one
-module _ (w : ℕ) (h : w < 0x10000) (l : Lookup) (e : l ≡ lookup_of w) (p : Plan) (f : p ≡ plan_of l.named) where
-  asks_right : (asks : Bool) → asks ≡ pick (eqb l.refusal 0) (names_i p.work) false → asks ≡ takes_immediate w
-  unfolding takes_immediate
-  asks_right asks a = a ∙ by_test (eqb l.refusal 0) refl
-    where
-      by_test : (z : Bool) → eqb l.refusal 0 ≡ z → pick z (names_i p.work) false ≡ takes_immediate w
-      by_test true q =
-          ap (λ (p : Plan). names_i p.work) f
-          ∙ sym (word_immediate w h l.named (sym (decode_accepted w l e (eqb-true l.refusal 0 q))))
-      by_test false q = ap (λ t. wordNamesI t.value) (decode_refused w l e (eqb-false l.refusal 0 q))
+      begin_late : (asked : Bool) → pick begins (ien_high c.pins) false ≡ asked → refusal (begin_checks c) ≡ refusal (check 10 asked ∷ [])
+      begin_late asked q =
+          past_pins c.pins rest good
+          ∙ ap (λ (t : Tells Named). refusal (check t.number (not (eqb t.number 0)) ∷ late (takes_immediate c.lines))) e.0
+          ∙ ap (λ (a : Bool). refusal (late a)) begun
+          ∙ ap (λ (a : Bool). refusal (check 10 a ∷ [])) q
 
--- the word's refusal is decoding's number
-refusal_decoded : (w : ℕ) → (lookup_of w).refusal ≡ (decode_of w).number
-unfolding lookup_of decode_of
-refusal_decoded w = sym (told_number (refusal (word_checks w)) (named_by w))
+      pub begin_ien : pick begins (ien_high c.pins) false ≡ true → judgement_of x c ≡ Refuse 10
+      begin_ien q = begin_refused DisabledImmediate (begin_late true q)
 
--- what the checks give, by what was found of the word
-checks_right : (x : Waiting) (c : Words) (fault : ℕ) (asks : Bool) → fault ≡ (decode_of (word_about x c.lines)).number → asks ≡ takes_immediate (word_about x c.lines)
-    → cycle_by x fault asks c.pins ≡ refusal (checks_of x c)
-checks_right Nothing c fault asks e a =
-    ap (λ (i : ℕ). cycle_by Nothing i asks c.pins) e ∙ ap (λ (b : Bool). cycle_by Nothing (decode_of c.lines).number b c.pins) a
-checks_right (Held w) c fault asks e a = ap (λ (b : Bool). cycle_by (Held w) fault b c.pins) a
+      pub begin_good : pick begins (ien_high c.pins) false ≡ false → judgement_of x c ≡ pick begins Wait (Perform n p 0)
+      begin_good q =
+          accepted_by x c (ap (λ (x : Waiting). refusal (checks_of x c)) idle ∙ begin_late false q)
+          ∙ ap (λ (x : Waiting). accepted_as x c) idle
+          ∙ ap (λ (a : Bool). pick a Wait (Perform (named_by c.lines) (plan_of (named_by c.lines)) 0)) begun
+          ∙ ap (λ (n : Named). pick begins Wait (Perform n (plan_of n) 0)) (sym (named_right c.lines n e.0))
+          ∙ ap (λ (p : Plan). pick begins Wait (Perform n p 0)) (sym e.1)
 
--- the verdict, by its parts
-module _ (x : Waiting) (c : Words) (w : ℕ) (h : w < 0x10000) (v : w ≡ word_about x c.lines) (l : Lookup) (e : l ≡ lookup_of w) (p : Plan) (f : p ≡ plan_of l.named)
-    (asks : Bool) (a : asks ≡ pick (eqb l.refusal 0) (names_i p.work) false) where
-  asked : asks ≡ takes_immediate (word_about x c.lines)
-  asked = asks_right w h l e p f asks a ∙ ap takes_immediate v
+-- with a word waiting
+module _ (x : Waiting) (c : Words) (w : ℕ) (waits : x ≡ Held w) where
+  second_refused : (k : Refusal) → refusal (second_checks w c) ≡ number_of k → judgement_of x c ≡ Refuse (number_of k)
+  second_refused k e = refused_by x c k (ap (λ (x : Waiting). refusal (checks_of x c)) waits ∙ e)
 
-  named : l.named ≡ named_by (word_about x c.lines)
-  unfolding lookup_of
-  named = ap (λ (l : Lookup). l.named) e ∙ ap named_by v
+  second_unfit : takes_immediate w ≡ false → judgement_of x c ≡ Refuse 4
+  second_unfit e = second_refused NothingToOperate (held 4 (not (takes_immediate w)) (pin_checks c.pins []) (ap not e))
 
-  pub judge_right : (number : ℕ) → number ≡ cycle_by x l.refusal asks c.pins → (begins : Bool) → begins ≡ only_begins x asks
-      → (immediate : ℕ) → immediate ≡ immediate_in x c.lines
-      → record { refusal = number; begins = begins; named = l.named; plan = p; immediate = immediate } ≡ verdict_of x c
-  unfolding verdict_of
-  judge_right number r begins s immediate t =
-      let fault : l.refusal ≡ (decode_of (word_about x c.lines)).number = ap (λ (l : Lookup). l.refusal) e ∙ refusal_decoded w ∙ ap (λ (w : ℕ). (decode_of w).number) v in
-      let numbered = r ∙ checks_right x c l.refusal asks fault asked in
-      let planned : p ≡ plan_of (named_by (word_about x c.lines)) = f ∙ ap plan_of named in
-      let begun : begins ≡ only_begins x (takes_immediate (word_about x c.lines)) = s ∙ ap (only_begins x) asked in
-      rw (numbered, begun, planned, named, t)
+  pub second_word : (k : ℕ) → decode_of w ≡ refused k → judgement_of x c ≡ Refuse 4
+  second_word k e = second_unfit (refused_none w k e)
 
--- the judgement that a verdict's fields are
-abbrev pub judgement_in : Verdict → Judgement
-judgement_in v = judged v.refusal (pick v.begins Wait (Perform v.named v.plan v.immediate))
+  module _ (n : Named) (p : Plan) (e : Planned w (Ok (n, p))) where
+    pub second_none : names_i p.work ≡ false → judgement_of x c ≡ Refuse 4
+    second_none q = second_unfit (e.2 ∙ q)
 
--- a verdict is the definition's judgement
-pub judgement_flat : (x : Waiting) (c : Words) → judgement_of x c ≡ judgement_in (verdict_of x c)
-unfolding judgement_of verdict_of
-judgement_flat Nothing c = refl
-judgement_flat (Held w) c = refl
+    module _ (q : names_i p.work ≡ true) where
+      second_late : refusal (second_checks w c) ≡ refusal (pin_checks c.pins [])
+      second_late = passed 4 (not (takes_immediate w)) (pin_checks c.pins []) (ap not (e.2 ∙ q))
 
--- and what it is, once its fields are known
-module _ (v : Verdict) where
-  pub in_refused : (v.refusal ≡ 0 → ⊥) → judgement_in v ≡ Refuse v.refusal
-  in_refused n = unpicked (eqb v.refusal 0) (pick v.begins Wait (Perform v.named v.plan v.immediate)) (Refuse v.refusal) (ne_eqb v.refusal 0 n)
+      pub second_pins : (k : Refusal) → number_of k ≡ refusal (pin_checks c.pins []) → judgement_of x c ≡ Refuse (number_of k)
+      second_pins k g = second_refused k (second_late ∙ sym g)
 
-  good : v.refusal ≡ 0 → judgement_in v ≡ pick v.begins Wait (Perform v.named v.plan v.immediate)
-  good z = picked (eqb v.refusal 0) (pick v.begins Wait (Perform v.named v.plan v.immediate)) (Refuse v.refusal) (eq-eqb v.refusal 0 z)
-
-  pub in_waiting : v.refusal ≡ 0 → v.begins ≡ true → judgement_in v ≡ Wait
-  in_waiting z b = good z ∙ picked v.begins Wait (Perform v.named v.plan v.immediate) b
-
-  pub in_performed : v.refusal ≡ 0 → v.begins ≡ false → judgement_in v ≡ Perform v.named v.plan v.immediate
-  in_performed z b = good z ∙ unpicked v.begins Wait (Perform v.named v.plan v.immediate) b
+      pub second_good : 0 ≡ refusal (pin_checks c.pins []) → judgement_of x c ≡ Perform n p c.lines
+      second_good g =
+          accepted_by x c (ap (λ (x : Waiting). refusal (checks_of x c)) waits ∙ second_late ∙ sym g)
+          ∙ ap (λ (x : Waiting). accepted_as x c) waits
+          ∙ ap (λ (n : Named). Perform n (plan_of n) c.lines) (sym (named_right w n e.0))
+          ∙ ap (λ (p : Plan). Perform n p c.lines) (sym e.1)

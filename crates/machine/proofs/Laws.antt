@@ -12,14 +12,17 @@ use Rattle.choice.specs.Tells.{Tells, accepted, refused}
 use Rattle.choice.proofs.Picks.{picked, unpicked}
 use Rattle.choice.proofs.Spans.{never}
 use Rattle.choice.proofs.Tells.{accepted_one, refused_one, accepted_refused}
+use Rattle.std.specs.Prelude.{Some, None, Result, Ok, Err}
+use Rattle.isa.specs.declared.Named.{Named}
 use Rattle.isa.specs.Words.{named_by, takes_immediate}
 use Rattle.machine.specs.declared.Waiting.{Waiting}
 use Rattle.machine.specs.declared.Waiting.TheVariants.{Nothing, Held}
 use Rattle.machine.specs.declared.Machine.{Machine}
 use Rattle.machine.specs.declared.Words.{Words}
-use Rattle.machine.specs.declared.Completed.TheVariants.{NoInstruction, Instruction}
 use Rattle.machine.specs.declared.Report.{Report}
-use Rattle.machine.specs.declared.Answer.{Answer}
+use Rattle.refusals.specs.declared.Refusal.{Refusal}
+use Rattle.refusals.specs.Numbers.{number_of}
+use Rattle.refusals.proofs.Laws.{number_of_one}
 use Rattle.machine.specs.declared.Turn.{Turn}
 use Rattle.machine.specs.Pins.{ien_high, both_low}
 use Rattle.machine.specs.Judging.{word_about, waiting_words, may_start}
@@ -34,7 +37,7 @@ told field x r e = ap field (accepted_one x r e)
 refused_has_none : {A : Type 0} (k : ℕ) (r : Report) → refused k ≡ accepted r → A
 refused_has_none k r e = absurd (accepted_refused r k (sym e))
 
-completed_differ : {n : _} → Instruction n ≡ NoInstruction → ⊥
+completed_differ : {n : Named} → Some n ≡ None → ⊥
 completed_differ e =
     let one : ◌≡◌ {A = ℕ} 1 0 = ap completions e in
     omega (arith, one)
@@ -66,8 +69,8 @@ module _ (m : Machine) (c : Words) where
 
   module _ (r : Report) where
     -- a cycle that is accepted and completes nothing changes only the waiting word, and D by DLE
-    pub wait_changes : (cycle_of m c).answer ≡ accepted r → r.completed ≡ NoInstruction → (cycle_of m c).machine ≡ machine_of (with_waiting (before m c) (Held c.lines))
-    wait_changes = every_way m c (λ (t : Turned). t.answer ≡ accepted r → r.completed ≡ NoInstruction → t.machine ≡ machine_of (with_waiting (before m c) (Held c.lines))) (record {
+    pub wait_changes : (cycle_of m c).answer ≡ accepted r → r.completed ≡ None → (cycle_of m c).machine ≡ machine_of (with_waiting (before m c) (Held c.lines))
+    wait_changes = every_way m c (λ (t : Turned). t.answer ≡ accepted r → r.completed ≡ None → t.machine ≡ machine_of (with_waiting (before m c) (Held c.lines))) (record {
       refuses = λ k n e. refused_has_none k r e;
       waits = λ x i e z. refl;
       performs = λ h e z. absurd (completed_differ (told (λ (r : Report). r.completed) _ r e ∙ z));
@@ -83,8 +86,8 @@ module _ (m : Machine) (c : Words) where
     })
 
     -- what it completes is the instruction of the word that it is about
-    pub completes_its_own : (cycle_of m c).answer ≡ accepted r → completions r.completed ≡ 1 → r.completed ≡ Instruction (named_by (instruction_word m c))
-    completes_its_own = every_way m c (λ (t : Turned). t.answer ≡ accepted r → completions r.completed ≡ 1 → r.completed ≡ Instruction (named_by (instruction_word m c))) (record {
+    pub completes_its_own : (cycle_of m c).answer ≡ accepted r → completions r.completed ≡ 1 → r.completed ≡ Some (named_by (instruction_word m c))
+    completes_its_own = every_way m c (λ (t : Turned). t.answer ≡ accepted r → completions r.completed ≡ 1 → r.completed ≡ Some (named_by (instruction_word m c))) (record {
       refuses = λ k n e. refused_has_none k r e;
       waits = λ x i e z.
           let none : ◌≡◌ {A = ℕ} 0 1 = told (λ (r : Report). completions r.completed) _ r e ∙ z in
@@ -93,16 +96,16 @@ module _ (m : Machine) (c : Words) where
     })
 
     -- with a word waiting, an accepted cycle completes that word's instruction
-    pub waiting_completes : (w : ℕ) → m.registers.waiting ≡ Held w → (cycle_of m c).answer ≡ accepted r → r.completed ≡ Instruction (named_by w)
-    waiting_completes w h = every_way m c (λ (t : Turned). t.answer ≡ accepted r → r.completed ≡ Instruction (named_by w)) (record {
+    pub waiting_completes : (w : ℕ) → m.registers.waiting ≡ Held w → (cycle_of m c).answer ≡ accepted r → r.completed ≡ Some (named_by w)
+    waiting_completes w h = every_way m c (λ (t : Turned). t.answer ≡ accepted r → r.completed ≡ Some (named_by w)) (record {
       refuses = λ k n e. refused_has_none k r e;
       waits = λ x i e. absurd (held_something w (sym h ∙ x));
-      performs = λ n e. sym (told (λ (r : Report). r.completed) _ r e) ∙ ap (λ (x : Waiting). Instruction (named_by (word_about x c.lines))) h;
+      performs = λ n e. sym (told (λ (r : Report). r.completed) _ r e) ∙ ap (λ (x : Waiting). Some (named_by (word_about x c.lines))) h;
     })
 
     -- with nothing waiting, an accepted cycle whose word has an I operand only waits
-    pub begins_waiting : m.registers.waiting ≡ Nothing → takes_immediate c.lines ≡ true → (cycle_of m c).answer ≡ accepted r → r.completed ≡ NoInstruction
-    begins_waiting none takes = every_way m c (λ (t : Turned). t.answer ≡ accepted r → r.completed ≡ NoInstruction) (record {
+    pub begins_waiting : m.registers.waiting ≡ Nothing → takes_immediate c.lines ≡ true → (cycle_of m c).answer ≡ accepted r → r.completed ≡ None
+    begins_waiting none takes = every_way m c (λ (t : Turned). t.answer ≡ accepted r → r.completed ≡ None) (record {
       refuses = λ k n e. refused_has_none k r e;
       waits = λ x i e. sym (told (λ (r : Report). r.completed) _ r e);
       performs = λ h e. absurd (never (sym (h none) ∙ takes));
@@ -151,16 +154,16 @@ module _ (m : Machine) (c : Words) where
       (kept.0, kept.1, status_kept (ien_not_low h))
 
 -- what a turn tells fixes the turn
-answer_one : (a b : Answer) → answer_tells a ≡ answer_tells b → a ≡ b
-answer_one (Answer.Accepted x) (Answer.Accepted y) e = ap Answer.Accepted (accepted_one x y e)
-answer_one (Answer.Accepted x) (Answer.Refused k) e = absurd (accepted_refused x k e)
-answer_one (Answer.Refused k) (Answer.Accepted x) e = absurd (accepted_refused x k (sym e))
-answer_one (Answer.Refused j) (Answer.Refused k) e = ap Answer.Refused (refused_one {A = Report} j k e)
+answer_one : (a b : Result Report Refusal) → answer_tells a ≡ answer_tells b → a ≡ b
+answer_one (Ok x) (Ok y) e = ap Ok (accepted_one x y e)
+answer_one (Ok x) (Err k) e = absurd (accepted_refused x (number_of k) e)
+answer_one (Err k) (Ok x) e = absurd (accepted_refused x (number_of k) (sym e))
+answer_one (Err j) (Err k) e = ap Err (number_of_one j k (refused_one {A = Report} (number_of j) (number_of k) e))
 
 turn_one : (s t : Turn) → turn_tells s ≡ turn_tells t → s ≡ t
 turn_one s t e =
     ap (λ (m : Machine). record { machine = m; answer = s.answer }) (ap (λ (x : Turned). x.machine) e)
-    ∙ ap (λ (a : Answer). record { machine = t.machine; answer = a }) (answer_one s.answer t.answer (ap (λ (x : Turned). x.answer) e))
+    ∙ ap (λ (a : Result Report Refusal). record { machine = t.machine; answer = a }) (answer_one s.answer t.answer (ap (λ (x : Turned). x.answer) e))
 
 -- no two outcomes satisfy the statement of a call
 pub cycle_unique : (m : Machine) (c : Words) (s t : Turn) → turn_tells s ≡ cycle_of m c → turn_tells t ≡ cycle_of m c → s ≡ t

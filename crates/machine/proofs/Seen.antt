@@ -1,15 +1,11 @@
 -- The operands as the code takes them, by their places in a list, and the operation of a task that computes.
 use mathlib.Core.Path.{◌≡◌, refl}
-use mathlib.Core.List.{List, [], ◌∷◌}
 use Prim.Native.Nat.{ℕ}
 use lib.ListN.{get_or}
-use types.Run.{OneOf, miss}
-use denote.Enum.Declared.{tag_of}
 use Rattle.alu.specs.declared.Mode.{Mode}
 use Rattle.alu.specs.Width.{width_of}
 use Rattle.alu.specs.Operations.{outcome_of}
 use Rattle.plan.specs.declared.Task.{Task}
-use Rattle.plan.specs.contracts.Task.{the_type}
 use Rattle.plan.specs.declared.Task.TheVariants.{NoOperation, TwoOperand, OneOperand, Bit, Shift, Rotate, Merge, Compare, Prioritize, CrcForward, CrcReverse, SaveStatus, SetStatus, ResetStatus, TestStatus}
 use Rattle.plan.specs.declared.Source.{Source}
 use Rattle.plan.specs.declared.Source.TheVariants.{Zero, Ram, Acc, Latch, Immediate, LatchZeroExtended, LatchSignExtended}
@@ -27,25 +23,23 @@ source_at Immediate v = refl
 source_at LatchZeroExtended v = refl
 source_at LatchSignExtended v = refl
 
--- a task that is none of the status computes: the outcome is its operation's
-abbrev computing : List ℕ
-computing = 1 ∷ 2 ∷ 3 ∷ 4 ∷ 5 ∷ 6 ∷ 7 ∷ 8 ∷ 9 ∷ 10 ∷ []
-
-pub computed : (task : Task) → OneOf computing (tag_of the_type task) → (mode : Mode) (n x y mask status : ℕ)
+-- a task that is neither NOOP nor one of the status computes: the outcome is its operation's
+pub computed : (task : Task) → (task ≡ NoOperation → ⊥) → (task ≡ SaveStatus → ⊥) → ((bits : ℕ) → task ≡ SetStatus bits → ⊥)
+    → ((bits : ℕ) → task ≡ ResetStatus bits → ⊥) → (task ≡ TestStatus → ⊥) → (mode : Mode) (n x y mask status : ℕ)
     → outcome_of (width_of mode) (operation_of task n x y mask) status ≡ outcome_for task mode n x y mask status
 unfolding outcome_for
-computed NoOperation k mode n x y mask status = absurd (miss computing 0 tt k)
-computed (TwoOperand kind) k mode n x y mask status = refl
-computed (OneOperand kind) k mode n x y mask status = refl
-computed (Bit kind) k mode n x y mask status = refl
-computed (Shift kind) k mode n x y mask status = refl
-computed Rotate k mode n x y mask status = refl
-computed Merge k mode n x y mask status = refl
-computed Compare k mode n x y mask status = refl
-computed Prioritize k mode n x y mask status = refl
-computed CrcForward k mode n x y mask status = refl
-computed CrcReverse k mode n x y mask status = refl
-computed SaveStatus k mode n x y mask status = absurd (miss computing 11 tt k)
-computed (SetStatus bits) k mode n x y mask status = absurd (miss computing 12 tt k)
-computed (ResetStatus bits) k mode n x y mask status = absurd (miss computing 13 tt k)
-computed TestStatus k mode n x y mask status = absurd (miss computing 14 tt k)
+computed NoOperation none save set reset test mode n x y mask status = absurd (none refl)
+computed (TwoOperand kind) none save set reset test mode n x y mask status = refl
+computed (OneOperand kind) none save set reset test mode n x y mask status = refl
+computed (Bit kind) none save set reset test mode n x y mask status = refl
+computed (Shift kind) none save set reset test mode n x y mask status = refl
+computed Rotate none save set reset test mode n x y mask status = refl
+computed Merge none save set reset test mode n x y mask status = refl
+computed Compare none save set reset test mode n x y mask status = refl
+computed Prioritize none save set reset test mode n x y mask status = refl
+computed CrcForward none save set reset test mode n x y mask status = refl
+computed CrcReverse none save set reset test mode n x y mask status = refl
+computed SaveStatus none save set reset test mode n x y mask status = absurd (save refl)
+computed (SetStatus bits) none save set reset test mode n x y mask status = absurd (set bits refl)
+computed (ResetStatus bits) none save set reset test mode n x y mask status = absurd (reset bits refl)
+computed TestStatus none save set reset test mode n x y mask status = absurd (test refl)

@@ -1,9 +1,11 @@
 -- One cycle: judged, seen, done, settled and reported (document 01, the machine and one cycle).
-use Rattle.std.specs.Prelude.{ℕ}
+use Rattle.std.specs.Prelude.{ℕ, Option, Some, None, Result, Ok, Err}
 use Rattle.choice.specs.Pick.{pick}
 use Rattle.choice.specs.Tells.{Tells, accepted, refused}
 use Rattle.alu.specs.declared.Mode.{Mode}
 use Rattle.alu.specs.declared.Outcome.{Outcome}
+use Rattle.refusals.specs.declared.Refusal.{Refusal}
+use Rattle.refusals.specs.Numbers.{number_of}
 use Rattle.isa.specs.declared.Named.{Named}
 use Rattle.plan.specs.declared.Chooser.TheVariants.{Pins}
 use Rattle.plan.specs.declared.Destination.{Destination}
@@ -12,10 +14,7 @@ use Rattle.machine.specs.declared.Waiting.TheVariants.{Nothing, Held}
 use Rattle.machine.specs.declared.Registers.{Registers}
 use Rattle.machine.specs.declared.Machine.{Machine}
 use Rattle.machine.specs.declared.Words.{Words}
-use Rattle.machine.specs.declared.Completed.{Completed}
-use Rattle.machine.specs.declared.Completed.TheVariants.{NoInstruction, Instruction}
 use Rattle.machine.specs.declared.Report.{Report}
-use Rattle.machine.specs.declared.Answer.{Answer}
 use Rattle.machine.specs.declared.Turn.{Turn}
 use Rattle.machine.specs.declared.Effect.{Effect}
 use Rattle.machine.specs.Pins.{oe_y_high}
@@ -42,7 +41,7 @@ refused_turn m k = record { machine = m; answer = refused k }
 abbrev pub waiting_turn : Registers → Words → Turned
 waiting_turn r c = record {
   machine = machine_of (with_waiting r (Held c.lines));
-  answer = accepted (record { y = 0; mask = 0; ct = ct_of Pins r.status c.pins; t = t_of r.status c.pins; completed = NoInstruction });
+  answer = accepted (record { y = 0; mask = 0; ct = ct_of Pins r.status c.pins; t = t_of r.status c.pins; completed = None });
 }
 
 -- what an instruction does from some registers, D latched already
@@ -56,7 +55,7 @@ report_of n e ct after pins = record {
   mask = pick (oe_y_high pins) 0 e.mask;
   ct = ct;
   t = t_of after pins;
-  completed = Instruction n;
+  completed = Some n;
 }
 
 abbrev pub turn_from : Named → Plan → Registers → Registers → Effect → ℕ → Turned
@@ -90,17 +89,17 @@ abbrev pub operand_word : Machine → Words → ℕ
 operand_word m c = operand_about m.registers.waiting c.lines
 
 -- what an answer tells, and what a turn of the code is
-abbrev pub answer_tells : Answer → Tells Report
-answer_tells (Answer.Accepted r) = accepted r
-answer_tells (Answer.Refused k) = refused k
+abbrev pub answer_tells : Result Report Refusal → Tells Report
+answer_tells (Ok r) = accepted r
+answer_tells (Err k) = refused (number_of k)
 
 abbrev pub turn_tells : Turn → Turned
 turn_tells t = record { machine = t.machine; answer = answer_tells t.answer }
 
 -- how many instructions a cycle completed (document 01, runs): a waiting cycle none, every other one
-abbrev pub completions : Completed → ℕ
-completions NoInstruction = 0
-completions (Instruction n) = 1
+abbrev pub completions : Option Named → ℕ
+completions None = 0
+completions (Some n) = 1
 
 -- IEN and SRE low: the destination and the status take what an operation gives, D stays, and nothing waits (document 01, the machine and one
 -- cycle). For the laws that spell a cycle out

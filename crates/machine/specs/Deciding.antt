@@ -1,46 +1,31 @@
--- For the contracts of private parts alone, the judge and its parts: the judgement as the code goes about it, flat, and by numbers and tests. What a
--- cycle is judged to be is said in Judging.
-use Rattle.std.specs.Prelude.{ℕ, Bool, false, not, [], ◌∷◌, eqb}
+-- For the contracts of private parts alone, the judge and its parts: what a word's instruction and plan are, and that a verdict is the judgement.
+-- What a cycle is judged to be is said in Judging.
+use Rattle.std.specs.Prelude.{◌≡◌, ℕ, Result, Ok, Err}
 use Rattle.choice.specs.Pick.{pick}
-use Rattle.choice.specs.Checks.{check, refusal}
-use Rattle.isa.specs.Words.{named_by, takes_immediate}
+use Rattle.choice.specs.Tells.{accepted, refused}
+use Rattle.refusals.specs.declared.Refusal.{Refusal}
+use Rattle.refusals.specs.Numbers.{number_of}
+use Rattle.isa.specs.declared.Named.{Named}
+use Rattle.isa.specs.Words.{named_by, decode_of, takes_immediate}
+use Rattle.plan.specs.declared.Plan.{Plan}
 use Rattle.plan.specs.Plans.{plan_of}
+use Rattle.plan.specs.Reading.{names_i}
 use Rattle.machine.specs.declared.Waiting.{Waiting}
-use Rattle.machine.specs.declared.Waiting.TheVariants.{Nothing, Held}
 use Rattle.machine.specs.declared.Words.{Words}
 use Rattle.machine.specs.declared.Verdict.{Verdict}
-use Rattle.machine.specs.Pins.{ien_high}
-use Rattle.machine.specs.Judging.{pin_checks, checks_of, word_about}
+use Rattle.machine.specs.Judging.{Refuse, Wait, Perform, word_about, judgement_of}
 
--- the I operand, 0 where there is none
-abbrev pub immediate_in : Waiting → ℕ → ℕ
-immediate_in Nothing lines = 0
-immediate_in (Held w) lines = lines
+-- the number of a refusal, 0 where there is none
+abbrev pub fault_in : {A : Type 0} → Result A Refusal → ℕ
+fault_in (Ok x) = 0
+fault_in (Err k) = number_of k
 
--- a cycle is the first of two
-abbrev pub only_begins : Waiting → Bool → Bool
-only_begins Nothing asks = asks
-only_begins (Held w) asks = false
+-- what decoding a word tells, with the plan of its instruction, which names an I operand where the word takes one
+abbrev pub Planned : ℕ → Result (Named × Plan) Refusal → Type 0
+Planned w (Ok (n, p)) = (decode_of w ≡ accepted n) × (p ≡ plan_of n) × (takes_immediate w ≡ names_i p.work)
+Planned w (Err k) = decode_of w ≡ refused (number_of k)
 
--- the number of the first check that holds: the lists of Judging, with the word's refusal, its fault, and whether it asks for an I operand in
--- place of the word
-abbrev pub begin_by : ℕ → Bool → ℕ → ℕ
-begin_by fault asks pins =
-    refusal (pin_checks pins (check fault (not (eqb fault 0)) ∷ check 10 (pick asks (ien_high pins) false) ∷ []))
-
-abbrev pub second_by : Bool → ℕ → ℕ
-second_by asks pins = refusal (check 4 (not asks) ∷ pin_checks pins [])
-
-abbrev pub cycle_by : Waiting → ℕ → Bool → ℕ → ℕ
-cycle_by Nothing fault asks pins = begin_by fault asks pins
-cycle_by (Held w) fault asks pins = second_by asks pins
-
--- a judgement in plain fields
-unfoldable pub verdict_of : Waiting → Words → Verdict
-verdict_of x c = record {
-  refusal = refusal (checks_of x c);
-  begins = only_begins x (takes_immediate (word_about x c.lines));
-  named = named_by (word_about x c.lines);
-  plan = plan_of (named_by (word_about x c.lines));
-  immediate = immediate_in x c.lines;
-}
+-- a verdict is the judgement, and names the instruction of the word that the cycle is about
+abbrev pub Judges : Waiting → Words → Result Verdict Refusal → Type 0
+Judges x c (Ok v) = (judgement_of x c ≡ pick v.begins Wait (Perform v.named v.plan v.immediate)) × (v.named ≡ named_by (word_about x c.lines))
+Judges x c (Err k) = judgement_of x c ≡ Refuse (number_of k)

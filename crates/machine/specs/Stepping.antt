@@ -1,12 +1,14 @@
--- One cycle as the code goes about it: RAM in place, the other registers as the core, and the answer in plain fields. What a cycle is, is
--- said in Cycles. First come the statements of `core_of`, `machine_from` and `step`; what follows `Steps` only serves the parts of a step.
-use Rattle.std.specs.Prelude.{ℕ, ◌≡◌, List, [], ◌∷◌, true, false}
+-- One cycle as the code goes about it: RAM in place, and the other registers as the core. What a cycle is, is said in Cycles. First come the
+-- statements of `core_of`, `machine_from` and `step`; what follows `Steps` only serves the parts of a step.
+use Rattle.std.specs.Prelude.{ℕ, ◌≡◌, Bool, true, false, List, [], ◌∷◌, None, Result, Ok, Err, IfOk}
 use Rattle.choice.specs.Pick.{pick}
-use Rattle.choice.specs.Tells.{tells}
+use Rattle.choice.specs.Tells.{accepted, refused}
 use Rattle.alu.specs.declared.Mode.{Mode}
 use Rattle.alu.specs.declared.Operation.{Operation}
 use Rattle.alu.specs.declared.Operation.TheVariants.{TwoOperand as TwoOperandOn, OneOperand as OneOperandOn, Bit as BitOn, Shift as ShiftOn, Rotate as RotateOn, Merge as MergeOn, Compare as CompareOn, Prioritize as PrioritizeOn, CrcForward as CrcForwardOn, CrcReverse as CrcReverseOn}
 use Rattle.alu.specs.Width.{width_of, low, write_back}
+use Rattle.refusals.specs.declared.Refusal.{Refusal}
+use Rattle.refusals.specs.Numbers.{number_of}
 use Rattle.isa.specs.declared.Named.{Named}
 use Rattle.isa.specs.Words.{named_by}
 use Rattle.plan.specs.declared.Chooser.TheVariants.{Pins}
@@ -16,23 +18,21 @@ use Rattle.plan.specs.declared.Source.{Source}
 use Rattle.plan.specs.declared.Source.TheVariants.{Zero, Ram, Acc, Latch, Immediate, LatchZeroExtended, LatchSignExtended}
 use Rattle.plan.specs.declared.Task.{Task}
 use Rattle.plan.specs.declared.Task.TheVariants.{NoOperation, TwoOperand, OneOperand, Bit, Shift, Rotate, Merge, Compare, Prioritize, CrcForward, CrcReverse, SaveStatus, SetStatus, ResetStatus, TestStatus}
-use Rattle.plan.specs.declared.Plan.{Plan}
 use Rattle.machine.specs.declared.Waiting.{Waiting}
 use Rattle.machine.specs.declared.Waiting.TheVariants.{Nothing, Held}
 use Rattle.machine.specs.declared.Registers.{Registers}
 use Rattle.machine.specs.declared.Core.{Core}
 use Rattle.machine.specs.declared.Machine.{Machine}
 use Rattle.machine.specs.declared.Words.{Words}
-use Rattle.machine.specs.declared.Completed.TheVariants.{NoInstruction, Instruction}
-use Rattle.machine.specs.declared.Report.{Report}
 use Rattle.machine.specs.declared.Stepped.{Stepped}
+use Rattle.machine.specs.declared.Verdict.{Verdict}
 use Rattle.machine.specs.declared.View.{View}
 use Rattle.machine.specs.declared.Effect.{Effect}
 use Rattle.machine.specs.Pins.{ien_high}
 use Rattle.machine.specs.Judging.{word_about}
 use Rattle.machine.specs.Seeing.{zero_extended, sign_extended}
 use Rattle.machine.specs.Settling.{latched, with_waiting, ram_after, acc_after, status_after}
-use Rattle.machine.specs.Reporting.{no_ct, no_t, ct_of, t_of}
+use Rattle.machine.specs.Reporting.{ct_of, t_of}
 use Rattle.machine.specs.Cycles.{Turned, machine_of, performed_turn, cycle_of}
 
 -- RAM and core together, and the core alone
@@ -45,23 +45,16 @@ machine_from ram core = machine_of (registers_of ram core)
 abbrev pub core_of : Registers → Core
 core_of r = record { acc = r.acc; latch = r.latch; status = r.status; waiting = r.waiting }
 
--- what a step tells, with the RAM that it left
-abbrev pub report_in : Stepped → Report
-report_in s = record { y = s.y; mask = s.mask; ct = s.ct; t = s.t; completed = pick s.begins NoInstruction (Instruction s.named) }
+-- what a step from some core tells, with the RAM that it left: the core after it, which is as it was where the step is refused, and the answer
+abbrev pub step_tells : Core → List ℕ → Result Stepped Refusal → Turned
+step_tells core ram (Ok s) = record { machine = machine_from ram s.core; answer = accepted s.report }
+step_tells core ram (Err k) = record { machine = machine_from ram core; answer = refused (number_of k) }
 
-abbrev pub step_tells : List ℕ → Stepped → Turned
-step_tells ram s = record { machine = machine_from ram s.core; answer = tells s.refusal (report_in s) }
-
--- a refused step: the core as it was and the number. The other fields tell nothing: no bit of Y, no CT, T not driven
-abbrev pub refused_step : Named → Core → ℕ → Stepped
-refused_step n core number = record { core = core; refusal = number; y = 0; mask = 0; ct = no_ct; t = no_t; begins = false; named = n }
-
--- A step from RAM and core leaves RAM and answers: what it tells is the cycle. Besides, so that every field is fixed: its instruction is that of
--- the word which the cycle is about, also where nothing is told of it, and a refused step is as above.
-pub record Steps (ram : List ℕ) (core : Core) (c : Words) (s : Stepped) (after : List ℕ) : Type 0 where
-  pub turn : step_tells after s ≡ cycle_of (machine_from ram core) c
-  pub named : s.named ≡ named_by (word_about core.waiting c.lines)
-  pub blank : (s.refusal ≡ 0 → ⊥) → s ≡ refused_step s.named core s.refusal
+-- A step from RAM and core leaves RAM and answers: what it tells is the cycle, so where it is refused RAM is as it was. Besides, so that every
+-- field is fixed: an accepted step names the instruction of the word which the cycle is about, also where it only begins it.
+pub record Steps (ram : List ℕ) (core : Core) (c : Words) (r : Result Stepped Refusal) (after : List ℕ) : Type 0 where
+  pub turn : step_tells core after r ≡ cycle_of (machine_from ram core) c
+  pub named : IfOk r (λ s. s.named ≡ named_by (word_about core.waiting c.lines))
 
 -- D latched, and a word kept waiting
 abbrev pub latched_core : Core → ℕ → ℕ → Core
@@ -111,26 +104,31 @@ operation_of (SetStatus bits) n first second mask = RotateOn n first
 operation_of (ResetStatus bits) n first second mask = RotateOn n first
 operation_of TestStatus n first second mask = RotateOn n first
 
--- the word of the written register afterwards
-abbrev pub word_after : Destination → Mode → ℕ → ℕ → ℕ
-word_after ToY mode y word = word
-word_after ToAcc mode y word = word
-word_after ToRam mode y word = write_back (width_of mode) word y
-word_after ToStatus mode y word = word
-word_after ToAccAndStatus mode y word = word
+-- whether RAM, or ACC, is a destination
+abbrev pub to_ram : Destination → Bool
+to_ram ToY = false
+to_ram ToAcc = false
+to_ram ToRam = true
+to_ram ToStatus = false
+to_ram ToAccAndStatus = false
 
-abbrev pub settled_word : Mode → Effect → ℕ → ℕ → ℕ
-settled_word mode e word pins = pick (ien_high pins) word (word_after e.destination mode e.result word)
+abbrev pub to_acc : Destination → Bool
+to_acc ToY = false
+to_acc ToAcc = true
+to_acc ToRam = false
+to_acc ToStatus = false
+to_acc ToAccAndStatus = true
+
+-- a word of RAM, or ACC, afterwards, by whether it is the destination
+abbrev pub settled_word : Mode → Effect → Bool → ℕ → ℕ → ℕ
+settled_word mode e written word pins = pick (ien_high pins) word (pick written (write_back (width_of mode) word e.result) word)
 
 abbrev pub settled_ram : Mode → ℕ → List ℕ → Effect → ℕ → List ℕ
 settled_ram mode register ram e pins = pick (ien_high pins) ram (ram_after e.destination mode register e.result ram)
 
-abbrev pub settled_acc : Mode → ℕ → Effect → ℕ → ℕ
-settled_acc mode acc e pins = pick (ien_high pins) acc (acc_after e.destination mode e.result acc)
-
 abbrev pub settled_core : Mode → Core → Effect → ℕ → Core
 settled_core mode core e pins = record {
-  acc = settled_acc mode core.acc e pins;
+  acc = pick (ien_high pins) core.acc (acc_after e.destination mode e.result core.acc);
   latch = core.latch;
   status = status_after core.status e.status pins;
   waiting = Nothing;
@@ -140,17 +138,11 @@ settled_core mode core e pins = record {
 abbrev pub waiting_step : Named → Core → Words → Stepped
 waiting_step n core c = record {
   core = waiting_core core (Held c.lines);
-  refusal = 0;
-  y = 0;
-  mask = 0;
-  ct = ct_of Pins core.status c.pins;
-  t = t_of core.status c.pins;
-  begins = true;
   named = n;
+  report = record { y = 0; mask = 0; ct = ct_of Pins core.status c.pins; t = t_of core.status c.pins; completed = None };
 }
 
 -- an instruction's step, with D latched already
-pub record Performed (ram : List ℕ) (n : Named) (p : Plan) (core : Core) (immediate pins : ℕ) (s : Stepped) (after : List ℕ) : Type 0 where
-  pub turn : step_tells after s ≡ performed_turn n p (registers_of ram core) immediate pins
-  pub named : s.named ≡ n
-  pub accepted : s.refusal ≡ 0
+pub record Performed (ram : List ℕ) (v : Verdict) (core : Core) (pins : ℕ) (s : Stepped) (after : List ℕ) : Type 0 where
+  pub turn : step_tells core after (Ok s) ≡ performed_turn v.named v.plan (registers_of ram core) v.immediate pins
+  pub named : s.named ≡ v.named

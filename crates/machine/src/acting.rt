@@ -24,7 +24,6 @@ fn operation_of(task: Task, n: u8, first: u16, second: u16, mask: u16) -> Operat
     ensures { result ≡ operation_of task n first second mask }
 {
     match task {
-        Task::NoOperation => Operation::Rotate { n, source: first },
         Task::TwoOperand(kind) => Operation::TwoOperand {
             kind,
             r: first,
@@ -43,7 +42,12 @@ fn operation_of(task: Task, n: u8, first: u16, second: u16, mask: u16) -> Operat
             kind,
             source: first,
         },
-        Task::Rotate => Operation::Rotate { n, source: first },
+        Task::Rotate
+        | Task::NoOperation
+        | Task::SaveStatus
+        | Task::SetStatus(_)
+        | Task::ResetStatus(_)
+        | Task::TestStatus => Operation::Rotate { n, source: first },
         Task::Merge => Operation::Merge {
             n,
             u: first,
@@ -68,14 +72,11 @@ fn operation_of(task: Task, n: u8, first: u16, second: u16, mask: u16) -> Operat
             register: first,
             acc: second,
         },
-        Task::SaveStatus => Operation::Rotate { n, source: first },
-        Task::SetStatus(_) => Operation::Rotate { n, source: first },
-        Task::ResetStatus(_) => Operation::Rotate { n, source: first },
-        Task::TestStatus => Operation::Rotate { n, source: first },
     }
 }
 
-// The outcome of a task. All that compute go by one call, because the compiler makes a part of the cycle only of what is called once.
+// The outcome of a task. All that compute go by one call, because the compiler makes a part of the cycle only of what is called once. The operands stay apart,
+// as the definition has them.
 fn outcome_for(
     task: Task,
     mode: Mode,
@@ -88,7 +89,7 @@ fn outcome_for(
     ensures { result ≡ outcome_for task mode n first second mask status }
 {
     match task {
-        Task::NoOperation => Outcome { result: 0, status },
+        Task::NoOperation | Task::TestStatus => Outcome { result: 0, status },
         Task::SaveStatus => Outcome {
             result: status as u16,
             status,
@@ -101,7 +102,6 @@ fn outcome_for(
             result: 0,
             status: status & (255 - bits),
         },
-        Task::TestStatus => Outcome { result: 0, status },
         _ => alu::perform(mode, operation_of(task, n, first, second, mask), status),
     }
 }
@@ -111,21 +111,8 @@ fn bus_of(task: Task, res: u16) -> u16
     ensures { result ≡ bus_of task res }
 {
     match task {
-        Task::NoOperation => res,
-        Task::TwoOperand(_) => res,
-        Task::OneOperand(_) => res,
-        Task::Bit(_) => res,
-        Task::Shift(_) => res,
-        Task::Rotate => res,
-        Task::Merge => res,
-        Task::Compare => res,
-        Task::Prioritize => res,
-        Task::CrcForward => res,
-        Task::CrcReverse => res,
-        Task::SaveStatus => res,
         Task::SetStatus(_) => 0xFFFF,
-        Task::ResetStatus(_) => res,
-        Task::TestStatus => res,
+        _ => res,
     }
 }
 
@@ -154,35 +141,25 @@ fn status_for(destination: Destination, mode: Mode, outcome: Outcome, old: u8) -
     ensures { result ≡ status_for destination mode outcome old }
 {
     match destination {
-        Destination::ToY => outcome.status,
-        Destination::ToAcc => outcome.status,
-        Destination::ToRam => outcome.status,
-        Destination::ToStatus => taken_status(mode, outcome.result, old),
-        Destination::ToAccAndStatus => taken_status(mode, outcome.result, old),
+        Destination::ToY | Destination::ToAcc | Destination::ToRam => outcome.status,
+        Destination::ToStatus | Destination::ToAccAndStatus => {
+            taken_status(mode, outcome.result, old)
+        }
     }
 }
 
 fn performed(plan: Plan, view: View) -> Outcome
     ensures { result ≡ performed_of plan view }
 {
-    let mode = plan.mode;
-    let work = plan.work;
-    let task = work.task;
-    let operands = work.operands;
-    let first = operands.first;
-    let second = operands.second;
-    let mask = operands.mask;
     let all = sources(view);
-    let first = place(first);
-    let second = place(second);
-    let mask = place(mask);
+    let operands = plan.work.operands;
     outcome_for(
-        task,
-        mode,
+        plan.work.task,
+        plan.mode,
         plan.n,
-        all[first],
-        all[second],
-        all[mask],
+        all[place(operands.first)],
+        all[place(operands.second)],
+        all[place(operands.mask)],
         view.status,
     )
 }
@@ -190,17 +167,13 @@ fn performed(plan: Plan, view: View) -> Outcome
 fn effect_by(plan: Plan, outcome: Outcome, old: u8) -> Effect
     ensures { result ≡ effect_by plan outcome old }
 {
-    let mode = plan.mode;
     let work = plan.work;
-    let task = work.task;
-    let shown = work.shown;
-    let destination = work.destination;
     Effect {
         result: outcome.result,
-        shown: bus_of(task, outcome.result),
-        mask: mask_of(shown, mode),
-        status: status_for(destination, mode, outcome, old),
-        destination: destination,
+        shown: bus_of(work.task, outcome.result),
+        mask: mask_of(work.shown, plan.mode),
+        status: status_for(work.destination, plan.mode, outcome, old),
+        destination: work.destination,
     }
 }
 

@@ -5,7 +5,7 @@ ghost use Rattle.machine.specs.Reporting.{condition_of, ct_by_pins, ct_of, t_of}
 use crate::pins;
 use plan::Chooser;
 
-// CT by its code: 0 or 1, or 2 for none.
+// CT by its code: 0 or 1, or 2 for none, as a report has it.
 fn condition(code: u8, status: u8) -> u8
     ensures { result ≡ condition_of code status }
 {
@@ -32,8 +32,7 @@ fn condition(code: u8, status: u8) -> u8
         2,
         2,
     ];
-    let at = (code % 16) as usize;
-    all[at]
+    all[(code % 16) as usize]
 }
 
 fn ct_by_pins(status: u8, levels: u16) -> u8
@@ -51,14 +50,8 @@ pub(crate) fn ct(chooser: Chooser, status: u8, levels: u16) -> u8
     ensures { result ≡ ct_of chooser status levels }
 {
     match chooser {
-        Chooser::Pins => ct_by_pins(status, levels),
-        Chooser::Instruction(code) => {
-            if pins::ien_high(levels) {
-                ct_by_pins(status, levels)
-            } else {
-                condition(code, status)
-            }
-        }
+        Chooser::Instruction(code) if !pins::ien_high(levels) => condition(code, status),
+        _ => ct_by_pins(status, levels),
     }
 }
 

@@ -1,4 +1,5 @@
-// The pins of a cycle, by their levels.
+// The pins of a cycle, by their levels. These stay a word, as in `Words` and in the definitions: a type of its own would only put a field's name
+// into every contract.
 ghost use Rattle.std.specs.Prelude.{◌≡◌};
 ghost use Rattle.machine.specs.Pins.{ien_high, both_low, dle_high, oe_y_high, oe_t_high, t_inputs, stray_pin, bus_clash};
 
@@ -43,11 +44,7 @@ pub(crate) fn t_inputs(pins: u16) -> u8
 pub(crate) fn stray_pin(pins: u16) -> bool
     ensures { result ≡ stray_pin pins }
 {
-    if pins / 32 % 8 == 0 {
-        pins / 4096 != 0
-    } else {
-        true
-    }
+    pins / 32 % 8 != 0 || pins / 4096 != 0
 }
 
 // DLE high with OE_Y low.

@@ -7,7 +7,7 @@ use crate::{Core, View};
 use alu::Mode;
 use plan::Source;
 
-// The part of a word at the width.
+// The part of a word at the width. alu has the same, within an operation.
 fn at_width(mode: Mode, x: u16) -> u16
     ensures { result ≡ low (width_of mode) x }
 {
@@ -31,7 +31,7 @@ pub(crate) fn seen(mode: Mode, word: u16, core: Core, immediate: u16) -> View
 }
 
 // Every word that an operand can be, in the order of the sources. An operand is read by its place here, because a processor cannot guess jumps
-// over the sources.
+// over the sources (docs/DECISIONS.md, 52).
 pub(crate) fn sources(view: View) -> [u16; 7]
     ensures { result ≡ sources_of view }
 {

@@ -1,7 +1,7 @@
 // The only writer of registers.
 ghost use Rattle.std.specs.Prelude.{◌≡◌};
-ghost use Rattle.machine.specs.Settling.{acc_after, status_after};
-ghost use Rattle.machine.specs.Stepping.{latched_core, waiting_core, word_after, settled_word, settled_ram, settled_acc, settled_core};
+ghost use Rattle.machine.specs.Settling.{status_after};
+ghost use Rattle.machine.specs.Stepping.{latched_core, waiting_core, to_ram, to_acc, settled_word, settled_ram, settled_core};
 
 use crate::{Core, Effect, Waiting, pins};
 use alu::Mode;
@@ -11,45 +11,46 @@ use plan::Destination;
 pub(crate) fn latched(core: Core, input: u16, levels: u16) -> Core
     ensures { result ≡ latched_core core input levels }
 {
-    let mut next = core;
     if pins::dle_high(levels) {
-        next.latch = input;
+        Core {
+            latch: input,
+            ..core
+        }
+    } else {
+        core
     }
-    next
 }
 
 // The word of a first immediate cycle is kept.
 pub(crate) fn with_waiting(core: Core, waiting: Waiting) -> Core
     ensures { result ≡ waiting_core core waiting }
 {
-    Core {
-        acc: core.acc,
-        latch: core.latch,
-        status: core.status,
-        waiting: waiting,
-    }
+    Core { waiting, ..core }
 }
 
-fn word_after(destination: Destination, mode: Mode, res: u16, word: u16) -> u16
-    ensures { result ≡ word_after destination mode res word }
+fn to_ram(destination: Destination) -> bool
+    ensures { result ≡ to_ram destination }
 {
-    match destination {
-        Destination::ToY => word,
-        Destination::ToAcc => word,
-        Destination::ToRam => alu::write_back(mode, word, res),
-        Destination::ToStatus => word,
-        Destination::ToAccAndStatus => word,
-    }
+    matches!(destination, Destination::ToRam)
 }
 
-fn settled_word(mode: Mode, effect: Effect, word: u16, levels: u16) -> u16
-    ensures { result ≡ settled_word mode effect word levels }
+fn to_acc(destination: Destination) -> bool
+    ensures { result ≡ to_acc destination }
 {
-    let destination = effect.destination;
-    if pins::ien_high(levels) {
-        word
+    matches!(
+        destination,
+        Destination::ToAcc | Destination::ToAccAndStatus
+    )
+}
+
+// A word of RAM, or ACC, after an instruction, by whether it is its destination. Mode, effect and levels stay apart here, as the definitions have them.
+fn settled_word(mode: Mode, effect: Effect, written: bool, word: u16, levels: u16) -> u16
+    ensures { result ≡ settled_word mode effect written word levels }
+{
+    if written && !pins::ien_high(levels) {
+        alu::write_back(mode, word, effect.result)
     } else {
-        word_after(destination, mode, effect.result, word)
+        word
     }
 }
 
@@ -59,20 +60,7 @@ pub(crate) fn settle_ram(ram: &mut [u16; 32], register: u8, mode: Mode, effect: 
     ensures { ram.new ≡ settled_ram mode register ram.old effect levels }
 {
     let at = (register % 32) as usize;
-    let word = ram[at];
-    ram[at] = settled_word(mode, effect, word, levels);
-}
-
-fn acc_after(destination: Destination, mode: Mode, res: u16, acc: u16) -> u16
-    ensures { result ≡ acc_after destination mode res acc }
-{
-    match destination {
-        Destination::ToY => acc,
-        Destination::ToAcc => alu::write_back(mode, acc, res),
-        Destination::ToRam => acc,
-        Destination::ToStatus => acc,
-        Destination::ToAccAndStatus => alu::write_back(mode, acc, res),
-    }
+    ram[at] = settled_word(mode, effect, to_ram(effect.destination), ram[at], levels);
 }
 
 fn status_after(old: u8, new: u8, levels: u16) -> u8
@@ -81,25 +69,14 @@ fn status_after(old: u8, new: u8, levels: u16) -> u8
     if pins::both_low(levels) { new } else { old }
 }
 
-fn settled_acc(mode: Mode, effect: Effect, acc: u16, levels: u16) -> u16
-    ensures { result ≡ settled_acc mode acc effect levels }
-{
-    let destination = effect.destination;
-    if pins::ien_high(levels) {
-        acc
-    } else {
-        acc_after(destination, mode, effect.result, acc)
-    }
-}
-
 // The registers but RAM after an instruction.
 pub(crate) fn settled_core(mode: Mode, core: Core, effect: Effect, levels: u16) -> Core
     ensures { result ≡ settled_core mode core effect levels }
 {
     Core {
-        acc: settled_acc(mode, effect, core.acc, levels),
-        latch: core.latch,
+        acc: settled_word(mode, effect, to_acc(effect.destination), core.acc, levels),
         status: status_after(core.status, effect.status, levels),
         waiting: Waiting::Nothing,
+        ..core
     }
 }

@@ -2,11 +2,12 @@
 // L bytes; the trace is the payload and Z zeros after it.
 #![tactic(auto)]
 
-ghost use Rattle.std.specs.Prelude.{◌≤◌, ◌<◌, length};
+ghost use Rattle.std.specs.Prelude.{◌≤◌};
+ghost use Rattle.page_cases.specs.declared.TheConstants.{MOST};
 
-use lines::Line;
+use std::io;
 use std::io::Read;
-use streams::{fill, print, print_number};
+use streams::{decimal, fill};
 
 // The bytes of a header line, the line feed too.
 const HEADER: usize = 14;
@@ -16,102 +17,61 @@ const MOST: usize = trace::INPUT_BYTES - 1;
 
 const CASES: usize = 10000;
 
-// What a number is where it is not written as it should be.
-const TOO_LARGE: usize = 99999;
+// The bytes of a case's payload and of its trace.
+#[derive(Clone, Copy)]
+struct Case {
+    payload: usize,
+    length: usize,
+    ghost payload_fits: { payload ≤ length },
+    ghost length_fits: { length ≤ MOST },
+}
 
-fn digit(glyph: u8) -> usize
-    ensures { result ≤ 99999 }
-{
-    match glyph {
-        48..=57 => glyph as usize - 48,
-        _ => TOO_LARGE,
+// The case of a header, if it has one.
+fn case_of(header: &[u8; HEADER]) -> Option<Case> {
+    let payload = decimal(&header[..6])?;
+    let length = payload.checked_add(decimal(&header[7..13])?)?;
+    if header[6] != b' ' || header[13] != b'\n' || MOST < length {
+        return None;
     }
-}
-
-// The number that six digits tell.
-fn number_at(header: &[u8; HEADER], at: usize) -> usize
-    requires { at ≤ 8 }
-    ensures { result < 99999999999 }
-{
-    digit(header[at]) * 100000
-        + digit(header[at + 1]) * 10000
-        + digit(header[at + 2]) * 1000
-        + digit(header[at + 3]) * 100
-        + digit(header[at + 4]) * 10
-        + digit(header[at + 5])
-}
-
-fn print_title(rt: &impl Print, number: usize) {
-    print(rt, b"case ");
-    print_number(rt, number as u64);
-    print(rt, b"\n");
+    Some(Case { payload, length })
 }
 
 // Prints the page of a trace.
-fn print_page(rt: &impl Print, trace: &[u8]) {
-    let mut text = [0u8; pages::PAGE_BYTES];
-    let mut said = [0u8; lines::REMARK_BYTES];
+fn print_page(rt: &impl Print, trace: &[u8]) -> io::Result<()> {
+    let mut text = [0; pages::PAGE_BYTES];
+    let mut said = [0; lines::REMARK_BYTES];
     let written = pages::run_trace(trace, &mut text, &mut said);
-    let output = written.output;
-    match output {
-        Line::NoRoom => print(rt, b"no room\n"),
-        Line::Made(n) => {
-            if text.len() < n {
-                return print(rt, b"too long\n");
-            }
-            print(rt, &text[..n]);
-        }
+    let Some(size) = written.output else {
+        return println!(rt; "no room");
+    };
+    match text.get(..size) {
+        Some(page) => rt.write_all(page),
+        None => println!(rt; "too long"),
     }
 }
 
-// Reads the payload into zeros and prints the page, and answers whether the payload is there.
-fn print_payload<R: Read>(
-    rt: &impl Print,
-    from: &mut R,
-    number: usize,
-    payload: usize,
-    bytes: &mut [u8],
-) -> bool
-    requires { payload ≤ length bytes.old }
-{
-    if fill(from, &mut bytes[0..payload]).bytes < payload {
-        return false;
-    }
-    print_title(rt, number);
-    print_page(rt, bytes);
-    true
-}
-
-// Prints the case of a header, and answers whether there is one.
-fn print_case<R: Read>(
-    rt: &impl Print,
-    from: &mut R,
-    number: usize,
-    header: &[u8; HEADER],
-) -> bool {
-    let payload = number_at(header, 0);
-    let length = payload + number_at(header, 7);
-    if header[6] != b' ' || header[13] != b'\n' {
-        return false;
-    }
-    if MOST < length {
-        return false;
-    }
-    let mut zeros = [0u8; MOST];
-    print_payload(rt, from, number, payload, &mut zeros[0..length])
-}
-
-// Ends where the input does, or with "bad input" where what comes next is no case.
-fn main(rt: HostRuntime) {
+// Ends where the input does, or with "bad input" where what comes next is no case. (block_counts goes on so too, over cases of another kind.)
+fn print_pages(rt: &HostRuntime) -> io::Result<()> {
     let mut from = rt.stdin();
     for cases in 0..CASES {
-        let mut header = [0u8; HEADER];
-        if fill(&mut from, &mut header).bytes == 0 {
-            return;
+        let mut header = [0; HEADER];
+        if fill(&mut from, &mut header).unwrap_or_else(|failed| failed.bytes) == 0 {
+            return Ok(());
         }
-        if !print_case(&rt, &mut from, cases + 1, &header) {
+        let Some(case) = case_of(&header) else {
+            break;
+        };
+        let mut zeros = [0; MOST];
+        if from.read_exact(&mut zeros[..case.payload]).is_err() {
             break;
         }
+        println!(rt; "case {}", cases + 1)?;
+        print_page(rt, &zeros[..case.length])?;
     }
-    print(&rt, b"bad input\n");
+    println!(rt; "bad input")
+}
+
+// Where something cannot be printed there is nobody to tell.
+fn main(rt: HostRuntime) {
+    let _ = print_pages(&rt);
 }

@@ -5,21 +5,19 @@ use mathlib.Core.List.{List, ◌++◌}
 use Prim.Native.Nat.{ℕ, ◌+◌, ◌*◌, ◌≤◌}
 use native.Mathlib.Omega.{arith}
 use mathlib.Core.Option.{none, some}
-use lib.Dec.{eqb, leb}
-use lib.ListN.{length, take, drop, get_or, length-append, length-drop, length-take}
-use lib.Seq.{take_at, take_all}
+use lib.Dec.{eqb}
+use lib.ListN.{length, take, drop, length-append, length-drop}
+use lib.Seq.{take_at}
 use Rattle.choice.specs.Tells.{Placed}
-use Rattle.machine.specs.declared.Waiting.{Waiting}
 use Rattle.run.specs.declared.Ending.{Ending}
 use Rattle.run.specs.declared.Ending.TheVariants.{Done, Stopped, Refused}
 use Rattle.run.specs.declared.Ran.{Ran}
-use Rattle.run.specs.Splitting.{words_per_report, words_per_cycle, cycle_at, cycles_in}
+use Rattle.run.specs.Splitting.{words_per_report, cycles_in}
 use Rattle.run.specs.Courses.{Course, reports_of}
 use Rattle.run.specs.Runs.{most_cycles, start_refusal, run_of, zero_machine, full_budget, summary_of, ran_tells, Gives, ran_of}
 use Rattle.run.proofs.Courses.{reports_length, steps_le}
 use Rattle.run.proofs.Starting.{started, refused_whole}
-use borrow.Author.Tests.{eqb-true, leb-true, leb-false}
-use Rattle.trace.specs.declared.Filled.TheVariants.{Accepted as Read, Refused as NotRead}
+use borrow.Author.Tests.{eqb-true}
 use Rattle.trace.specs.Layout.{words_per_record}
 use Rattle.trace.specs.Limits.{blocks_for}
 use Rattle.trace.specs.Reading.{read_of, read_words, Reads}
@@ -27,13 +25,10 @@ use Rattle.trace.specs.Writing.{trace_of, write_of, Writes}
 use Rattle.trace.proofs.Answered.{read_says, write_says}
 use Rattle.trace.proofs.Round.{made_trace_long}
 use Rattle.trace.proofs.Trips.{left_by}
-use Rattle.lines.specs.declared.Line.{Line}
-use Rattle.lines.specs.declared.Program.TheVariants.{RunTrace}
-use Rattle.lines.specs.declared.Remark.TheVariants.{Refusal}
-use Rattle.lines.specs.Answers.{Makes}
-use Rattle.lines.specs.Remarks.{remark_line}
-use Rattle.lines.proofs.Answered.{makes_as}
-use Rattle.pages.specs.Running.{reading_of, if_accepted, course_of, ran_from, end_said}
+use Rattle.std.proofs.Common.{Ok, Err}
+use Rattle.refusals.specs.declared.Refused.{Refused as NotRead}
+use Rattle.refusals.specs.Numbers.{number_of}
+use Rattle.pages.specs.Running.{reading_of, if_accepted, course_of, ran_from}
 use Rattle.pages.specs.Packing.{writing_of}
 
 -- room for the words of every trace
@@ -44,10 +39,10 @@ module _ (t cycles cycles' : List ℕ) (size : length cycles ≡ cycle_room) whe
   room_is : read_of words_per_record t (length cycles) ≡ reading_of t
   room_is = ap (read_of words_per_record t) size
 
-  pub not_read : (k i : ℕ) → Reads t (NotRead k i) cycles cycles' → (text : List ℕ) (refusal : ℕ → ℕ → List ℕ) → if_accepted (reading_of t) text refusal ≡ refusal k i
-  not_read k i r text refusal = ap (λ (a : Placed ℕ). if_accepted a text refusal) (sym room_is ∙ sym r.told)
+  pub not_read : (e : NotRead) → Reads t (Err e) cycles cycles' → (text : List ℕ) (refusal : ℕ → ℕ → List ℕ) → if_accepted (reading_of t) text refusal ≡ refusal (number_of e.refusal) e.index
+  not_read e r text refusal = ap (λ (a : Placed ℕ). if_accepted a text refusal) (sym room_is ∙ sym r.told)
 
-  module _ (n : ℕ) (r : Reads t (Read n) cycles cycles') (same : length cycles' ≡ length cycles) where
+  module _ (n : ℕ) (r : Reads t (Ok n) cycles cycles') (same : length cycles' ≡ length cycles) where
     pub is_read : (text : List ℕ) (refusal : ℕ → ℕ → List ℕ) → if_accepted (reading_of t) text refusal ≡ text
     is_read text refusal = ap (λ (a : Placed ℕ). if_accepted a text refusal) (sym room_is ∙ sym r.told)
 
@@ -66,13 +61,13 @@ module _ (t cycles cycles' : List ℕ) (size : length cycles ≡ cycle_room) whe
     words_read = ap (take n) filled ∙ take_at (read_words 3 t) (drop n cycles) n long
 
 module _ (words out out' : List ℕ) where
-  pub not_written : (k i : ℕ) → Writes words (NotRead k i) out out' → (text : List ℕ) (refusal : ℕ → ℕ → List ℕ) → if_accepted (writing_of words (length out)) text refusal ≡ refusal k i
-  not_written k i w text refusal = ap (λ (a : Placed ℕ). if_accepted a text refusal) (sym w.told)
+  pub not_written : (e : NotRead) → Writes words (Err e) out out' → (text : List ℕ) (refusal : ℕ → ℕ → List ℕ) → if_accepted (writing_of words (length out)) text refusal ≡ refusal (number_of e.refusal) e.index
+  not_written e w text refusal = ap (λ (a : Placed ℕ). if_accepted a text refusal) (sym w.told)
 
-  pub kept_out : (k i : ℕ) → Writes words (NotRead k i) out out' → out' ≡ out
-  kept_out k i w = w.written ∙ ap (λ (a : Placed ℕ). elim a.told.value [ some n ↦ trace_of 3 words ++ drop n out | none ↦ out ]) (sym w.told)
+  pub kept_out : (e : NotRead) → Writes words (Err e) out out' → out' ≡ out
+  kept_out e w = w.written ∙ ap (λ (a : Placed ℕ). elim a.told.value [ some n ↦ trace_of 3 words ++ drop n out | none ↦ out ]) (sym w.told)
 
-  module _ (n : ℕ) (w : Writes words (Read n) out out') where
+  module _ (n : ℕ) (w : Writes words (Ok n) out out') where
     pub is_written : (text : List ℕ) (refusal : ℕ → ℕ → List ℕ) → if_accepted (writing_of words (length out)) text refusal ≡ text
     is_written text refusal = ap (λ (a : Placed ℕ). if_accepted a text refusal) (sym w.told)
 
@@ -81,23 +76,6 @@ module _ (words out out' : List ℕ) where
 
     pub trace_out : out' ≡ trace_of words_per_record words ++ drop n out
     trace_out = left_by (write_of 3 (length words) (length out)) n (trace_of 3 words) out out' (sym w.told) w.written
-
--- the words found, as many as there are
-module _ (n m : ℕ) (words : List ℕ) (e : n ≡ length (take m words)) where
-  pub found_long : n ≡ length (take n words)
-  found_long = simp length-take (omega (arith, e, length-take m words))
-
-  pub found_same : take n words ≡ take m words
-  found_same = by_test (leb m (length words)) refl
-    where
-      by_test : (b : Bool) → leb m (length words) ≡ b → take n words ≡ take m words
-      by_test true q =
-          let same : n ≡ m = omega (arith, e, length-take m words, leb-true m (length words) q) in
-          ap (λ (k : ℕ). take k words) same
-      by_test false q =
-          let over : length words ≤ m = omega (arith, leb-false m (length words) q) in
-          let whole : length words ≤ n = omega (arith, e, length-take m words, over) in
-          take_all n words whole ∙ sym (take_all m words over)
 
 -- a run's answer is the one that its course gives
 ran_told : (r : Ran) → r ≡ ran_of (ran_tells r)
@@ -134,10 +112,3 @@ module _ (words reports reports' : List ℕ) (r : Ran) (size : length reports �
       let count : length all ≡ words_per_report * r.accepted = reports_length (course_of words).steps ∙ ap (λ (x : Ran). words_per_report * x.accepted) (sym ran_is) in
       let left : reports' ≡ all ++ drop (length all) reports = g.written ∙ ap (λ (c : Course). reports_of c.steps ++ drop (length (reports_of c.steps)) reports) course_is in
       ap (take (words_per_report * r.accepted)) left ∙ take_at all (drop (length all) reports) (words_per_report * r.accepted) count
-
--- a refused cycle's words are those of its place
-pub refusal_said_lem : (words : List ℕ) (k i w p : ℕ) (waiting : Waiting) {r : Line} {before after : List ℕ} → w ≡ get_or words (words_per_cycle * i + 0) 0 → p ≡ get_or words (words_per_cycle * i + 2) 0
-    → Makes (remark_line RunTrace (Refusal k i w p)) r before after → Makes (end_said words (Refused k i) waiting) r before after
-refusal_said_lem words k i w p waiting e f m =
-    let place : words_per_cycle * i + 0 ≡ words_per_cycle * i = omega arith in
-    makes_as (ap (λ (x : ℕ). remark_line RunTrace (Refusal k i x p)) (e ∙ ap (λ (j : ℕ). get_or words j 0) place) ∙ ap (λ (x : ℕ). remark_line RunTrace (Refusal k i (cycle_at words i).lines x)) f) m

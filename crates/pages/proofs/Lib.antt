@@ -1,4 +1,4 @@
-pub mod Together
+pub mod Drafted
 pub mod Longest
 pub mod Gathered
 pub mod Pieces

@@ -73,10 +73,6 @@ pub page_lines : (r : Ran) (reports : List ℕ) → joined (lines_from (λ (k : 
 page_lines r reports =
     ap (λ (n : ℕ). joined (lines_from (λ (k : ℕ). get_or (page_of r reports) k []) 0 n)) (sym (page_length r reports)) ∙ ap joined (all_lines (page_of r reports))
 
-pub page_room : (r : Ran) (reports text : List ℕ) → length (joined (page_of r reports)) ≤ length text
-    → length (joined (lines_from (λ (k : ℕ). get_or (page_of r reports) k []) 0 (r.accepted + 34))) ≤ length text
-page_room r reports text h = rw (page_lines r reports) h
-
 text_lines : (words : List ℕ) (i n : ℕ) → joined (lines_from (words_line words) i n) ≡ text_from words i n
 text_lines words i zero = refl
 text_lines words i (suc n) =
@@ -84,9 +80,6 @@ text_lines words i (suc n) =
 
 pub all_text : (words : List ℕ) → joined (lines_from (words_line words) 0 (length words / words_per_line)) ≡ text_of words
 all_text words = text_lines words 0 (length words / words_per_line)
-
-pub text_room : (words text : List ℕ) → length (text_of words) ≤ length text → length (joined (lines_from (words_line words) 0 (length words / words_per_line))) ≤ length text
-text_room words text h = rw (all_text words) h
 
 joined_both : (xs ys : List (List ℕ)) → joined (xs ++ ys) ≡ joined xs ++ joined ys
 joined_both [] ys = refl

@@ -4,7 +4,7 @@ use mathlib.Core.List.{List}
 use Prim.Native.Nat.{ℕ}
 use lib.ListN.{length}
 use Rattle.text.specs.declared.Reader.{Reader}
-use Rattle.lines.specs.declared.Line.{Line}
+use Rattle.std.proofs.Common.{Option}
 use Rattle.lines.proofs.Answered.{makes_unique}
 use Rattle.pages.specs.declared.Written.{Written}
 use Rattle.pages.specs.declared.PieceTaken.{PieceTaken}
@@ -12,7 +12,7 @@ use Rattle.pages.specs.Writing.{Writes}
 use Rattle.pages.specs.Packing.{ended_from, packed_text, packed_said, piece_said, TakesPiece, EndsText}
 
 same_written : (r q : Written) → r.output ≡ q.output → r.said ≡ q.said → r ≡ q
-same_written r q e f = ap (λ (x : Line). record { output = x; said = r.said }) e ∙ ap (λ (x : Line). record { output = q.output; said = x }) f
+same_written r q e f = ap (λ (x : Option ℕ). record { output = x; said = r.said }) e ∙ ap (λ (x : Option ℕ). record { output = q.output; said = x }) f
 
 pub writes_unique : (text said : List ℕ) (r q : Written) (out errors out' errors' out'' errors'' : List ℕ) → Writes text said r out errors out' errors' → Writes text said q out errors out'' errors''
     → (r ≡ q) × (out' ≡ out'') × (errors' ≡ errors'')
@@ -25,7 +25,7 @@ pub take_text_unique : (s : Reader) (text : List ℕ) (r q : PieceTaken) (words 
     → (r ≡ q) × (words' ≡ words'') × (errors' ≡ errors'')
 take_text_unique s text r q words errors words' errors' words'' errors'' f g =
     let b = makes_unique (piece_said s text words) errors r.said q.said errors' errors'' f.told g.told in (
-      ap (λ (x : Reader). record { reader = x; said = r.said }) (f.reader ∙ sym g.reader) ∙ ap (λ (x : Line). record { reader = q.reader; said = x }) b.0,
+      ap (λ (x : Reader). record { reader = x; said = r.said }) (f.reader ∙ sym g.reader) ∙ ap (λ (x : Option ℕ). record { reader = q.reader; said = x }) b.0,
       f.kept ∙ sym g.kept,
       b.1,
     )

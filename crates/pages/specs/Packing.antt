@@ -1,5 +1,5 @@
 -- What `packtrace` makes of a text, and what it says of it. Document 01 says nothing of traces as text: the form is ours (docs/DECISIONS.md).
-use Rattle.std.specs.Prelude.{◌≡◌, ℕ, ◌-◌, Bool, false, List, [], ◌∷◌, ◌++◌, eqb, ltb, length, take, get_or, drop}
+use Rattle.std.specs.Prelude.{◌≡◌, ℕ, ◌-◌, Bool, false, List, [], ◌∷◌, ◌++◌, eqb, ltb, length, take, get_or, drop, Some, None}
 use Rattle.choice.specs.Pick.{pick}
 use Rattle.choice.specs.Tells.{Placed}
 use Rattle.text.specs.declared.Reader.{Reader}
@@ -17,7 +17,6 @@ use Rattle.pages.specs.declared.PieceTaken.{PieceTaken}
 use Rattle.pages.specs.declared.Written.{Written}
 use Rattle.pages.specs.Writing.{Writes}
 use Rattle.pages.specs.Running.{if_accepted, refusal_said}
-use Rattle.text.specs.declared.Stop.{Stop}
 
 -- the reader after some bytes of a text, the lent words, and the lines that cannot be read, in their order
 pub record Gathered : Type 0 where
@@ -128,7 +127,7 @@ gathered s words = record { reader = s; words = words; faults = [] }
 -- byte i on
 abbrev pub gathered_after : Took → ℕ → List ℕ → Gathered
 gathered_after t i text =
-    elim t.taken.stop [
-      | Stop.TextEnd ↦ gathered t.taken.reader t.words
-      | Stop.Bad f ↦ fault_then f (gather_from t.taken.reader (drop (t.taken.bytes - i) text) t.words)
+    elim t.taken.fault [
+      | None ↦ gathered t.taken.reader t.words
+      | Some f ↦ fault_then f (gather_from t.taken.reader (drop (t.taken.bytes - i) text) t.words)
     ]

@@ -1,19 +1,21 @@
 // A trace, and the page of its run.
-ghost use Rattle.std.specs.Prelude.{◌≡◌, ◌+◌, ◌*◌, ◌≤◌, length, get_or};
+ghost use Rattle.std.specs.Prelude.{◌≡◌, ◌+◌, ◌*◌, ◌≤◌, ◌++◌, length, get_or};
 ghost use Rattle.run.specs.Splitting.{words_per_cycle};
 ghost use Rattle.run.specs.Runs.{most_cycles};
 ghost use Rattle.trace.specs.Layout.{joined};
+ghost use Rattle.refusals.specs.Numbers.{number_of};
+ghost use Rattle.lines.specs.declared.Remark.TheVariants.{Refusal};
 ghost use Rattle.lines.specs.Answers.{Makes};
 ghost use Rattle.lines.specs.Pages.{page_of};
-ghost use Rattle.lines.specs.Putting.{Puts};
 ghost use Rattle.pages.specs.Writing.{Writes};
-ghost use Rattle.pages.specs.Running.{refusal_said, wait_said, end_said, run_text, run_said, page_text, page_said};
+ghost use Rattle.pages.specs.Running.{wait_said, end_said, run_text, run_said, page_text, page_said};
 
-use crate::{Written, joining};
-use lines::{Line, Program, Remark};
+use crate::Written;
+use crate::draft::Draft;
+use lines::{Program, Remark};
 use machine::Waiting;
+use refusals::Refused;
 use run::{Ending, MOST_CYCLES, Ran, WORDS_PER_CYCLE, WORDS_PER_REPORT};
-use trace::Filled;
 
 // Room for every page.
 pub const PAGE_BYTES: usize = lines::CYCLE_BYTES * MOST_CYCLES
@@ -23,58 +25,48 @@ pub const PAGE_BYTES: usize = lines::CYCLE_BYTES * MOST_CYCLES
 
 const REPORT_WORDS: usize = WORDS_PER_REPORT * MOST_CYCLES;
 
-// The lines of a page one after another.
-fn join_page(ran: Ran, reports: &[u16], page: &mut [u8]) -> usize
-    requires { (ran.accepted ≤ most_cycles) × (length (joined (page_of ran reports.now)) ≤ length page.old) }
-    ensures { Puts (joined (page_of ran reports.now)) 0 result page.old page.new }
-{
-    let count = ran.accepted + lines::LINES_BESIDE_CYCLES;
-    let mut at: usize = 0;
-    let mut i: usize = 0;
-    while i < count {
-        let line = lines::page_line(ran, reports, i, &mut page[at..]);
-        at += joining::bytes_in(line);
-        i += 1;
+impl<const N: usize> Draft<N> {
+    // The lines of a page one after another.
+    fn add_page(&mut self, ran: Ran, reports: &[u16])
+        requires few { ran.accepted ≤ most_cycles }
+        requires room { length self.old + length (joined (page_of ran reports.now)) ≤ N }
+        ensures { self.new ≡ self.old ++ joined (page_of ran reports.now) }
+    {
+        for i in 0..ran.accepted + lines::LINES_BESIDE_CYCLES {
+            self.add(|room| lines::page_line(ran, reports, i, room));
+        }
     }
-    at
 }
 
-// A word of cycle `index`, 0 where there is no such cycle.
+// A word of cycle `index`, 0 where there is no such cycle. lines has the same of reports, which are longer, and keeps it: it asks for a word of a report.
 fn cycle_word(words: &[u16], index: usize, word: usize) -> u16
     requires { word ≤ 2 }
     ensures { result ≡ get_or words.now (words_per_cycle * index + word) 0 }
 {
-    if words.len() <= index {
-        return 0;
-    }
-    let at = WORDS_PER_CYCLE * index + word;
-    if at < words.len() { words[at] } else { 0 }
+    let at = index.saturating_mul(WORDS_PER_CYCLE).saturating_add(word);
+    words.get(at).copied().unwrap_or(0)
 }
 
-fn say_waiting(waiting: Waiting, said: &mut [u8]) -> Line
+fn say_waiting(waiting: Waiting, said: &mut [u8]) -> Option<usize>
     ensures { Makes (wait_said waiting) result said.old said.new }
 {
     match waiting {
-        Waiting::Nothing => Line::Made(0),
+        Waiting::Nothing => Some(0),
         Waiting::Held(word) => lines::remark_line(Program::RunTrace, Remark::Waits(word), said),
     }
 }
 
 // What is said of the end of a run.
-fn say_end(words: &[u16], ending: Ending, waiting: Waiting, said: &mut [u8]) -> Line
+fn say_end(words: &[u16], ending: Ending, waiting: Waiting, said: &mut [u8]) -> Option<usize>
     ensures { Makes (end_said words.now ending waiting) result said.old said.new }
 {
     match ending {
-        Ending::Done => say_waiting(waiting, said),
-        Ending::Stopped => say_waiting(waiting, said),
+        Ending::Done | Ending::Stopped => say_waiting(waiting, said),
         Ending::Refused(number, index) => {
             let word = cycle_word(words, index, 0);
             let pins = cycle_word(words, index, 2);
-            lines::remark_line(
-                Program::RunTrace,
-                Remark::Refusal(number, index, word, pins),
-                said,
-            )
+            let remark = Remark::Refusal(number, index, word, pins);
+            lines::remark_line(Program::RunTrace, remark, said)
         }
     }
 }
@@ -84,25 +76,19 @@ fn run_words(words: &[u16], out: &mut [u8], said: &mut [u8]) -> Written
 {
     let mut reports = [0u16; REPORT_WORDS];
     let ran = run::run_from_zero(words, &mut reports);
-    let machine = ran.machine;
-    let registers = machine.registers;
-    let waiting = registers.waiting;
-    let ending = ran.ending;
-    let filled = WORDS_PER_REPORT * ran.accepted;
-    let mut page = [0u8; PAGE_BYTES];
-    let n = join_page(ran, &reports[..filled], &mut page);
-    let output = lines::hand_over(&page[..n], out);
+    let mut page = Draft::<PAGE_BYTES>::new();
+    page.add_page(ran, &reports[..WORDS_PER_REPORT * ran.accepted]);
     Written {
-        output: output,
-        said: say_end(words, ending, waiting, said),
+        output: page.hand_over(out),
+        said: say_end(words, ran.ending, ran.machine.registers.waiting, said),
     }
 }
 
-// What a program says of a refusal of the reader or the writer.
-pub(crate) fn say_refused(program: Program, number: u8, index: usize, said: &mut [u8]) -> Line
-    ensures { Makes (refusal_said program number index) result said.old said.new }
+// What there is to say of a refusal of the reader or the writer.
+pub(crate) fn remark_of(refused: Refused) -> Remark
+    ensures { result ≡ Refusal (number_of refused.refusal) refused.index 0 0 }
 {
-    lines::remark_line(program, Remark::Refusal(number, index, 0, 0), said)
+    Remark::Refusal(u8::from(refused.refusal), refused.index, 0, 0)
 }
 
 // The page of a trace's run, from all zero: a line for each accepted cycle, the state, the registers that are not 0, and how the run ended.
@@ -112,13 +98,13 @@ pub fn run_trace(trace: &[u8], out: &mut [u8], said: &mut [u8]) -> Written
 {
     let mut cycles = [0u16; trace::CYCLE_WORDS];
     match trace::read(trace, &mut cycles) {
-        Filled::Refused(number, index) => {
-            let output = lines::last_line(Ending::Refused(number, index), 0, out);
+        Ok(n) => run_words(&cycles[..n], out, said),
+        Err(refused) => {
+            let ending = Ending::Refused(u8::from(refused.refusal), refused.index);
             Written {
-                output: output,
-                said: say_refused(Program::RunTrace, number, index, said),
+                output: lines::last_line(ending, 0, out),
+                said: lines::remark_line(Program::RunTrace, remark_of(refused), said),
             }
         }
-        Filled::Accepted(n) => run_words(&cycles[..n], out, said),
     }
 }

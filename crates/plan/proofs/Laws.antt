@@ -18,7 +18,7 @@ use Rattle.isa.specs.declared.Named.{Named}
 use Rattle.isa.specs.declared.Row.{Row}
 use Rattle.isa.specs.Fields.{mode_of, mark_of, mark_for}
 use Rattle.isa.specs.Sets.{has}
-use Rattle.isa.specs.Table.{row_at, number_of, bit_in_mode}
+use Rattle.isa.specs.Table.{row_at, number_of, bit_in_mode, numbered}
 use Rattle.isa.specs.Words.{named_row, acc_twice, asks_i, names_i as wordNamesI, decode_of, takes_immediate, Listed}
 use Rattle.isa.proofs.Laws.{encode_decode, encode_takes, decode_named}
 use Rattle.isa.proofs.Families.{own_row, narrow}
@@ -27,12 +27,12 @@ use Rattle.plan.specs.declared.Task.{Task}
 use Rattle.plan.specs.declared.Task.TheVariants.{NoOperation, TwoOperand, OneOperand, Bit, Shift, Rotate, Merge, Compare, Prioritize, CrcForward, CrcReverse, SaveStatus, SetStatus, ResetStatus, TestStatus}
 use Rattle.plan.specs.declared.Work.{Work}
 use Rattle.plan.specs.declared.Plan.{Plan}
-use Rattle.plan.specs.Numbers.{same_destination}
+use Rattle.plan.specs.contracts.Destination.{the_type}
+use denote.Enum.Bare.{sameb, same_true}
 use Rattle.plan.specs.Tables.{back}
 use Rattle.plan.specs.Plans.{work_of, plan_of}
 use Rattle.plan.specs.Reading.{names_i, writes_ram, is_bit, acc_under_acc, is_ram_acc_or_latch}
 use Rattle.plan.specs.Listed.{to_ram}
-use Rattle.plan.proofs.Sound.{destination_sound}
 
 abbrev is_merge : Task → Bool
 is_merge NoOperation = false
@@ -58,8 +58,8 @@ tests f a b w =
     same (names_i w) (asks_i (row_at (number_of f)) a b)
     ∷ same (writes_ram w) (to_ram f a b)
     ∷ same (acc_under_acc w) (acc_twice (row_at (number_of f)) a b)
-    ∷ same (is_bit w.task) (eqb (row_at (number_of f)).rule bit_in_mode)
-    ∷ elim (is_merge w.task) [ true ↦ same_destination w.destination (back w.operands.second) | false ↦ true ]
+    ∷ same (is_bit w.task) (eqb (numbered (row_at (number_of f)).rule) (numbered bit_in_mode))
+    ∷ elim (is_merge w.task) [ true ↦ sameb the_type w.destination (back w.operands.second) | false ↦ true ]
     ∷ elim (is_merge w.task) [ true ↦ is_ram_acc_or_latch w.operands.second | false ↦ true ]
     ∷ elim (is_bit w.task) [ true ↦ is_ram_acc_or_latch w.operands.first | false ↦ true ]
     ∷ []
@@ -196,16 +196,16 @@ module _ (n : Named) (listed : Listed n) where
   acc_agrees = agree (acc_under_acc w) (acc_twice row n.a n.b) held.1.1.0
 
   -- it is a bit operation exactly when its family has the rule of 9
-  pub bit_agrees : is_bit (plan_of n).work.task ≡ eqb (named_row n).rule bit_in_mode
+  pub bit_agrees : is_bit (plan_of n).work.task ≡ eqb (numbered (named_row n).rule) (numbered bit_in_mode)
   unfolding tests
-  bit_agrees = agree (is_bit w.task) (eqb row.rule bit_in_mode) held.1.1.1.0
+  bit_agrees = agree (is_bit w.task) (eqb (numbered row.rule) (numbered bit_in_mode)) held.1.1.1.0
 
   -- a merge's destination is its R
   pub merge_goes_back : (plan_of n).work.task ≡ Merge → (plan_of n).work.destination ≡ back (plan_of n).work.operands.second
   unfolding tests
   merge_goes_back e =
-      let to = same_destination w.destination (back w.operands.second) in
-      destination_sound w.destination (back w.operands.second) (holds to (where_held (is_merge w.task) to held.1.1.1.1.0 (ap is_merge e)))
+      let to = sameb the_type w.destination (back w.operands.second) in
+      same_true the_type tt w.destination (back w.operands.second) (holds to (where_held (is_merge w.task) to held.1.1.1.1.0 (ap is_merge e)))
 
   -- a merge's R and a bit operation's source are RAM, ACC or D
   pub merge_from : (plan_of n).work.task ≡ Merge → is_ram_acc_or_latch (plan_of n).work.operands.second ≡ true

@@ -17,7 +17,7 @@ use Rattle.isa.specs.declared.Family.{Family}
 use Rattle.isa.specs.declared.Named.{Named}
 use Rattle.isa.specs.declared.Row.{Row}
 use Rattle.isa.specs.Fields.{mark_for}
-use Rattle.isa.specs.Table.{bit_in_mode}
+use Rattle.isa.specs.Table.{bit_in_mode, numbered}
 use Rattle.isa.specs.Words.{InFamily, named_by, named_row, acc_twice, bit_too_high, decode_of, encode_of, Listed}
 use Rattle.isa.proofs.Laws.{encode_takes, named_eight, named_nine, named_in, number_of_named}
 use Rattle.isa.proofs.Takes.{in_turn}
@@ -70,18 +70,18 @@ acc_under_acc_lem w = (
   λ h. rw (h.0, h.1, h.2),
 )
 
-bit_too_high_lem : (r : Row) (d : Mode) (a : ℕ) → (bit_too_high r (mark_for d) a ≡ true) ↔ ((eqb r.rule bit_in_mode ≡ true) × (d ≡ Byte) × (7 < a))
+bit_too_high_lem : (r : Row) (d : Mode) (a : ℕ) → (bit_too_high r (mark_for d) a ≡ true) ↔ ((eqb (numbered r.rule) (numbered bit_in_mode) ≡ true) × (d ≡ Byte) × (7 < a))
 bit_too_high_lem r d a = (
   λ h.
-      let t = in_turn (eqb r.rule bit_in_mode) (pick (eqb (mark_for d) 0) (ltb 7 a) false) h in
+      let t = in_turn (eqb (numbered r.rule) (numbered bit_in_mode)) (pick (eqb (mark_for d) 0) (ltb 7 a) false) h in
       let s = in_turn (eqb (mark_for d) 0) (ltb 7 a) t.1 in
       (t.0, of_byte d s.0, ltb-true 7 a s.1),
   λ h. rw (h.0, h.1, lt-ltb 7 a h.2),
 )
 
 -- a row has one rule
-one_rule : (r : Row) (a b : ℕ) → eqb r.rule bit_in_mode ≡ true → acc_twice r a b ≡ false
-one_rule r a b h = rw (eqb-true r.rule bit_in_mode h)
+one_rule : (r : Row) (a b : ℕ) → eqb (numbered r.rule) (numbered bit_in_mode) ≡ true → acc_twice r a b ≡ false
+one_rule r a b h = rw (eqb-true (numbered r.rule) (numbered bit_in_mode) h)
 
 module _ (n : Named) (listed : Listed n) where
   -- 8: it prioritizes ACC under ACC

@@ -2,4 +2,3 @@ pub mod Tables
 pub mod Plans
 pub mod Reading
 pub mod Listed
-pub mod Numbers

@@ -7,13 +7,13 @@ use isa::{Family, Named};
 
 mod tables; // tables.rt: what single fields stand for
 
-ghost use Rattle.std.specs.Prelude.{◌≡◌, ◌<◌};
-ghost use Rattle.plan.specs.Tables.{at, two_operands, one_operands, shifts, sources, pair_r, pair_s, ram_pair_r, ram_pair_s, rotate_u, rotate_r, rotate_mask, back};
+ghost use Rattle.std.specs.Prelude.{◌≡◌};
+ghost use Rattle.plan.specs.Tables.{at, two_operands, one_operands, shifts, sources, rotate_u, rotate_r, rotate_mask, back};
 ghost use Rattle.plan.specs.Plans.{one, two, masked, three, at_width, whole, idle, bit_work, work_of, plan_of};
 ghost use Rattle.plan.specs.Reading.{is_immediate, names_i};
 
 // What is done. Set and reset status name the status bits that they change.
-#[derive(Clone, Copy)]
+#[derive(Clone, Copy, Debug, PartialEq, Eq)]
 pub enum Task {
     NoOperation,
     TwoOperand(TwoOperandKind),
@@ -33,7 +33,7 @@ pub enum Task {
 }
 
 // Where an operand comes from. LatchZeroExtended is document 01's D(0E), LatchSignExtended its D(SE).
-#[derive(Clone, Copy)]
+#[derive(Clone, Copy, Debug, PartialEq, Eq)]
 pub enum Source {
     Zero,
     Ram,
@@ -45,7 +45,7 @@ pub enum Source {
 }
 
 // Where the result goes besides the Y bus.
-#[derive(Clone, Copy)]
+#[derive(Clone, Copy, Debug, PartialEq, Eq)]
 pub enum Destination {
     ToY,
     ToAcc,
@@ -55,22 +55,23 @@ pub enum Destination {
 }
 
 // How much of Y the bus shows.
-#[derive(Clone, Copy)]
+#[derive(Clone, Copy, Debug, PartialEq, Eq)]
 pub enum Shown {
     AtWidth,
     Whole,
     Nothing,
 }
 
-// Who chooses CT with IEN low: the T inputs, or the instruction by a code.
-#[derive(Clone, Copy)]
+// Who chooses CT with IEN low: the T inputs, or the instruction by a code, as document 01 numbers them. No Option, because somebody always chooses.
+#[derive(Clone, Copy, Debug, PartialEq, Eq)]
 pub enum Chooser {
     Pins,
     Instruction(u8),
 }
 
-// A source; R and S; a register and ACC; U, R and the mask; or a source and its mask. A place that a task does not have is Zero.
-#[derive(Clone, Copy)]
+// A source; R and S; a register and ACC; U, R and the mask; or a source and its mask. A place that a task does not have is Zero, as the plans of the
+// definition have it.
+#[derive(Clone, Copy, Debug, PartialEq, Eq)]
 pub struct Operands {
     pub first: Source,
     pub second: Source,
@@ -78,7 +79,7 @@ pub struct Operands {
 }
 
 // What is to be done with which operands, where the result goes, what the bus shows and who chooses CT.
-#[derive(Clone, Copy)]
+#[derive(Clone, Copy, Debug, PartialEq, Eq)]
 pub struct Work {
     pub task: Task,
     pub operands: Operands,
@@ -88,7 +89,7 @@ pub struct Work {
 }
 
 // What a named instruction asks for: its work at a mode, with n and the RAM address, which not every task uses.
-#[derive(Clone, Copy)]
+#[derive(Clone, Copy, Debug, PartialEq, Eq)]
 pub struct Plan {
     pub mode: Mode,
     pub n: u8,
@@ -105,22 +106,10 @@ fn one(source: Source) -> Operands
 fn two(first: Source, second: Source) -> Operands
     ensures { result ≡ two first second }
 {
-    three(first, second, Source::Zero)
-}
-
-fn masked(source: Source, mask: Source) -> Operands
-    ensures { result ≡ masked source mask }
-{
-    three(source, Source::Zero, mask)
-}
-
-fn three(first: Source, second: Source, mask: Source) -> Operands
-    ensures { result ≡ three first second mask }
-{
     Operands {
-        first: first,
-        second: second,
-        mask: mask,
+        first,
+        second,
+        mask: Source::Zero,
     }
 }
 
@@ -129,9 +118,9 @@ fn at_width(task: Task, operands: Operands, destination: Destination) -> Work
     ensures { result ≡ at_width task operands destination }
 {
     Work {
-        task: task,
-        operands: operands,
-        destination: destination,
+        task,
+        operands,
+        destination,
         shown: Shown::AtWidth,
         chooser: Chooser::Pins,
     }
@@ -142,11 +131,8 @@ fn whole(task: Task, operands: Operands, destination: Destination) -> Work
     ensures { result ≡ whole task operands destination }
 {
     Work {
-        task: task,
-        operands: operands,
-        destination: destination,
         shown: Shown::Whole,
-        chooser: Chooser::Pins,
+        ..at_width(task, operands, destination)
     }
 }
 
@@ -164,12 +150,10 @@ fn check_step(task: Task) -> Work
 
 // A merge goes where its R is.
 fn merge(b: u8) -> Work
-    requires { b < 16 }
     ensures { result ≡ at_width Task.Merge (three (at rotate_u b) (at rotate_r b) (at rotate_mask b)) (back (at rotate_r b)) }
 {
-    let operands = rotate_operands(b);
-    let r = operands.second;
-    at_width(Task::Merge, operands, tables::back_to(r))
+    let operands = tables::rotate_operands(b);
+    at_width(Task::Merge, operands, tables::back_to(operands.second))
 }
 
 // Work that shows nothing.
@@ -177,16 +161,15 @@ fn idle(task: Task, chooser: Chooser) -> Work
     ensures { result ≡ idle task chooser }
 {
     Work {
-        task: task,
+        task,
         operands: one(Source::Zero),
         destination: Destination::ToY,
         shown: Shown::Nothing,
-        chooser: chooser,
+        chooser,
     }
 }
 
 fn two_operand(b: u8, operands: Operands, destination: Destination) -> Work
-    requires { b < 16 }
     ensures { result ≡ at_width (Task.TwoOperand (at two_operands b)) operands destination }
 {
     at_width(
@@ -197,7 +180,6 @@ fn two_operand(b: u8, operands: Operands, destination: Destination) -> Work
 }
 
 fn one_operand(a: u8, b: u8, destination: Destination) -> Work
-    requires { (a < 16) × (b < 16) }
     ensures { result ≡ at_width (Task.OneOperand (at one_operands a)) (one (at sources b)) destination }
 {
     at_width(
@@ -208,7 +190,6 @@ fn one_operand(a: u8, b: u8, destination: Destination) -> Work
 }
 
 fn shift(b: u8, source: Source, destination: Destination) -> Work
-    requires { b < 16 }
     ensures { result ≡ at_width (Task.Shift (at shifts b)) (one source) destination }
 {
     at_width(Task::Shift(tables::shift_kind(b)), one(source), destination)
@@ -220,35 +201,14 @@ fn bit(kind: BitKind, source: Source) -> Work
     at_width(Task::Bit(kind), one(source), tables::bit_to(kind, source))
 }
 
-fn pair(a: u8) -> Operands
-    requires { a < 16 }
-    ensures { result ≡ two (at pair_r a) (at pair_s a) }
-{
-    two(tables::pair_r(a), tables::pair_s(a))
-}
-
-fn ram_pair(a: u8) -> Operands
-    requires { a < 16 }
-    ensures { result ≡ two (at ram_pair_r a) (at ram_pair_s a) }
-{
-    two(tables::ram_pair_r(a), tables::ram_pair_s(a))
-}
-
-fn rotate_operands(b: u8) -> Operands
-    requires { b < 16 }
-    ensures { result ≡ three (at rotate_u b) (at rotate_r b) (at rotate_mask b) }
-{
-    three(
-        tables::rotate_u(b),
-        tables::rotate_r(b),
-        tables::rotate_mask(b),
-    )
-}
-
 fn prioritize(source: Source, mask: Source, destination: Destination) -> Work
     ensures { result ≡ whole Task.Prioritize (masked source mask) destination }
 {
-    whole(Task::Prioritize, masked(source, mask), destination)
+    let operands = Operands {
+        mask,
+        ..one(source)
+    };
+    whole(Task::Prioritize, operands, destination)
 }
 
 fn status_work(task: Task, destination: Destination) -> Work
@@ -257,20 +217,20 @@ fn status_work(task: Task, destination: Destination) -> Work
     whole(task, one(Source::Zero), destination)
 }
 
-// The work of a family, by fields in their range.
+// The work of a family, by its fields.
+#[tactic(auto, unfolding(crate::specs::Plans::work_of))]
 fn work_of(family: Family, a: u8, b: u8, c: u8) -> Work
-    requires { (a < 16) × (b < 16) × (c < 32) }
     ensures { result ≡ work_of family a b c }
 {
     match family {
-        Family::Tor1 => two_operand(b, ram_pair(a), tables::ram_pair_to(a)),
+        Family::Tor1 => two_operand(b, tables::ram_pair(a), tables::ram_pair_to(a)),
         Family::Rotr1 => rotate(Source::Ram, tables::rotr1_to(b)),
         Family::Rotr2 => rotate(tables::rotate_u(b), Destination::ToRam),
-        Family::Rotc => at_width(Task::Compare, rotate_operands(b), Destination::ToY),
+        Family::Rotc => at_width(Task::Compare, tables::rotate_operands(b), Destination::ToY),
         Family::Rotm => merge(b),
         Family::Sor => one_operand(a, b, tables::sor_to(b)),
         Family::Bor2 => bit(tables::bor2_kind(b), Source::Ram),
-        Family::Tor2 => two_operand(b, pair(a), Destination::ToRam),
+        Family::Tor2 => two_operand(b, tables::pair(a), Destination::ToRam),
         Family::Shftr => shift(b, tables::shift_source(Source::Ram, a), Destination::ToRam),
         Family::Crcf => check_step(Task::CrcForward),
         Family::Crcr => check_step(Task::CrcReverse),
@@ -283,7 +243,7 @@ fn work_of(family: Family, a: u8, b: u8, c: u8) -> Work
         ),
         Family::Svstr => status_work(Task::SaveStatus, Destination::ToRam),
         Family::Sonr => one_operand(a, b, tables::no_ram_to(c)),
-        Family::Tonr => two_operand(b, pair(a), tables::no_ram_to(c)),
+        Family::Tonr => two_operand(b, tables::pair(a), tables::no_ram_to(c)),
         Family::Shftnr => shift(
             b,
             tables::shift_source(Source::Acc, a),
@@ -306,49 +266,34 @@ fn work_of(family: Family, a: u8, b: u8, c: u8) -> Work
 }
 
 // What a named instruction asks for.
+#[tactic(auto, unfolding(crate::specs::Plans::plan_of))]
 pub fn plan_for(named: Named) -> Plan
     ensures { result ≡ plan_of named }
 {
-    let family = named.family;
-    let mode = named.mode;
     let a = named.a % 16;
     let c = named.c % 32;
-    let work = work_of(family, a, named.b % 16, c);
     Plan {
-        mode: mode,
+        mode: named.mode,
         n: a,
         register: c,
-        work: work,
+        work: work_of(named.family, a, named.b % 16, c),
     }
 }
 
 fn is_immediate(source: Source) -> bool
     ensures { result ≡ is_immediate source }
 {
-    match source {
-        Source::Zero => false,
-        Source::Ram => false,
-        Source::Acc => false,
-        Source::Latch => false,
-        Source::Immediate => true,
-        Source::LatchZeroExtended => false,
-        Source::LatchSignExtended => false,
-    }
+    matches!(source, Source::Immediate)
 }
 
 // Whether some operand is I.
 pub fn names_immediate(work: Work) -> bool
     ensures { result ≡ names_i work }
 {
-    let operands = work.operands;
-    let first = operands.first;
-    let second = operands.second;
-    let mask = operands.mask;
-    if is_immediate(first) {
-        return true;
-    }
-    if is_immediate(second) {
-        return true;
-    }
-    is_immediate(mask)
+    let Operands {
+        first,
+        second,
+        mask,
+    } = work.operands;
+    is_immediate(first) || is_immediate(second) || is_immediate(mask)
 }

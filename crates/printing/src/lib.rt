@@ -5,11 +5,3 @@
 mod programs; // programs.rt: the three programs
 
 pub use programs::{pack_text, run_trace, unpack_trace};
-use text::Reader;
-
-// What came of reading a text: its reader, and whether a read failed.
-#[derive(Clone, Copy)]
-pub(crate) struct Text {
-    pub(crate) reader: Reader,
-    pub(crate) failed: bool,
-}

@@ -1,58 +1,49 @@
 // The three programs: read, call, write.
-use crate::Text;
-use files::Files;
+use files::{Files, ReadFailed};
 use lines::{Program, Remark};
 use pages::{PACKED_WORDS, Written};
 use std::io::{Read, Write};
 use text::Reader;
 
-// Writes what a call of `pages` gives.
-fn write_given<R, W: Write, E: Write>(
+// Reads a trace, and writes what a call of `pages` makes of it: a text, which has room for it, and what there is to say. (The call comes in a
+// closure: the check does not find the contract of a function of `pages` that is handed on by its name.)
+fn show_trace<R: Read, W: Write, E: Write, F: Fn(&[u8], &mut [u8], &mut [u8]) -> Written>(
     program: Program,
+    make: F,
+    text: &mut [u8],
     files: &mut Files<R, W, E>,
-    written: Written,
-    text: &[u8],
-    said: &[u8],
-) {
-    let output = written.output;
-    let told = written.said;
-    files::write_both(program, files, output, told, text, said);
-}
-
-fn show_trace<R, W: Write, E: Write>(bytes: &[u8], files: &mut Files<R, W, E>) {
-    let mut text = [0u8; pages::PAGE_BYTES];
+)
+    requires { F.IsAlwaysCallable make }
+{
+    let mut bytes = [0u8; trace::INPUT_BYTES];
     let mut said = [0u8; lines::REMARK_BYTES];
-    let written = pages::run_trace(bytes, &mut text, &mut said);
-    write_given(Program::RunTrace, files, written, &text, &said);
+    let Ok(size) = files::read_trace(&mut files.input, &mut bytes) else {
+        return files::say(program, Remark::NoInput, &mut files.errors);
+    };
+    let written = make(&bytes[..size], text, &mut said);
+    files.write_both(program, written.output, text, written.said, &said);
 }
 
 // Runs a trace, and prints its page.
 pub fn run_trace<R: Read, W: Write, E: Write>(files: &mut Files<R, W, E>) {
-    let mut bytes = [0u8; trace::INPUT_BYTES];
-    let input = files::read_trace(&mut files.input, &mut bytes);
-    if input.failed {
-        return files::say(Program::RunTrace, Remark::NoInput, &mut files.errors);
-    }
-    let n = input.bytes;
-    show_trace(&bytes[..n], files);
-}
-
-fn show_words<R, W: Write, E: Write>(bytes: &[u8], files: &mut Files<R, W, E>) {
-    let mut text = [0u8; pages::TEXT_BYTES];
-    let mut said = [0u8; lines::REMARK_BYTES];
-    let written = pages::unpack_trace(bytes, &mut text, &mut said);
-    write_given(Program::UnpackTrace, files, written, &text, &said);
+    let mut text = [0u8; pages::PAGE_BYTES];
+    show_trace(
+        Program::RunTrace,
+        |bytes, text, said| pages::run_trace(bytes, text, said),
+        &mut text,
+        files,
+    );
 }
 
 // Prints the words of a trace as text.
 pub fn unpack_trace<R: Read, W: Write, E: Write>(files: &mut Files<R, W, E>) {
-    let mut bytes = [0u8; trace::INPUT_BYTES];
-    let input = files::read_trace(&mut files.input, &mut bytes);
-    if input.failed {
-        return files::say(Program::UnpackTrace, Remark::NoInput, &mut files.errors);
-    }
-    let n = input.bytes;
-    show_words(&bytes[..n], files);
+    let mut text = [0u8; pages::TEXT_BYTES];
+    show_trace(
+        Program::UnpackTrace,
+        |bytes, text, said| pages::unpack_trace(bytes, text, said),
+        &mut text,
+        files,
+    );
 }
 
 fn take_piece<E: Write>(
@@ -63,34 +54,27 @@ fn take_piece<E: Write>(
 ) -> Reader {
     let mut said = [0u8; pages::SAID_BYTES];
     let taken = pages::take_text(reader, piece, words, &mut said);
-    let told = taken.said;
-    files::write_made(errors, told, &said);
+    let _ = files::write_made(errors, taken.said, &said);
     taken.reader
 }
 
-// Takes a text piece by piece, and names its bad lines.
+// Takes a text piece by piece, and names its bad lines, also in the piece in which a read fails.
 fn take_input<R: Read, W, E: Write>(
     files: &mut Files<R, W, E>,
     words: &mut [u16; PACKED_WORDS],
-) -> Text {
-    let mut state = text::start();
+) -> Result<Reader, ReadFailed> {
+    let mut reader = text::start();
     // more pieces than there is time for
     for _ in 0..u64::MAX {
         let mut chunk = [0u8; files::CHUNK];
-        let input = files::fill(&mut files.input, &mut chunk);
-        let n = input.bytes;
-        state = take_piece(state, &chunk[..n], words, &mut files.errors);
-        if n < files::CHUNK {
-            return Text {
-                reader: state,
-                failed: input.failed,
-            };
+        let read = files::fill(&mut files.input, &mut chunk);
+        let (Ok(size) | Err(ReadFailed { bytes: size })) = read;
+        reader = take_piece(reader, &chunk[..size], words, &mut files.errors);
+        if read? < files::CHUNK {
+            return Ok(reader);
         }
     }
-    Text {
-        reader: state,
-        failed: true,
-    }
+    Err(ReadFailed { bytes: 0 })
 }
 
 fn end_text<R, W: Write, E: Write>(
@@ -101,16 +85,20 @@ fn end_text<R, W: Write, E: Write>(
     let mut blocks = [0u8; trace::TRACE_BYTES];
     let mut said = [0u8; pages::SAID_BYTES];
     let written = pages::end_text(reader, words, &mut blocks, &mut said);
-    write_given(Program::PackTrace, files, written, &blocks, &said);
+    files.write_both(
+        Program::PackTrace,
+        written.output,
+        &blocks,
+        written.said,
+        &said,
+    );
 }
 
 // Makes a trace of a text.
 pub fn pack_text<R: Read, W: Write, E: Write>(files: &mut Files<R, W, E>) {
     let mut words = [0u16; PACKED_WORDS];
-    let text = take_input(files, &mut words);
-    if text.failed {
-        return files::say(Program::PackTrace, Remark::NoInput, &mut files.errors);
+    match take_input(files, &mut words) {
+        Ok(reader) => end_text(reader, &mut words, files),
+        Err(_) => files::say(Program::PackTrace, Remark::NoInput, &mut files.errors),
     }
-    let reader = text.reader;
-    end_text(reader, &mut words, files);
 }

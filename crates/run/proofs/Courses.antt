@@ -9,8 +9,8 @@ use lib.ListN.{length}
 use Rattle.choice.specs.Tells.{Tells, accepted, refused}
 use Rattle.machine.specs.declared.Machine.{Machine}
 use Rattle.machine.specs.declared.Report.{Report}
-use Rattle.machine.specs.declared.Completed.{Completed}
-use Rattle.machine.specs.declared.Completed.TheVariants.{NoInstruction, Instruction}
+use Rattle.std.specs.Prelude.{Option as CodeOption, Some, None}
+use Rattle.isa.specs.declared.Named.{Named}
 use Rattle.machine.specs.Cycles.{cycle_of, completions}
 use Rattle.run.specs.Splitting.{cycle_at, cycles_from, report_words, words_per_report}
 use Rattle.run.specs.Courses.{Step, Course, closing, step_then, turn_then, run_from, machine_after, completed_in, reports_of, preceded}
@@ -18,9 +18,9 @@ use Rattle.run.specs.Courses.{Step, Course, closing, step_then, turn_then, run_f
 pub preceded_more : (past more : List Step) (c : Course) → preceded past (preceded more c) ≡ preceded (past ++ more) c
 preceded_more past more c = ap (λ (s : List Step). record { steps = s; close = c.close }) (sym (append_assoc past more c.steps))
 
-pub completions_le : (c : Completed) → completions c ≤ 1
-completions_le NoInstruction = omega arith
-completions_le (Instruction n) = omega arith
+pub completions_le : (c : CodeOption Named) → completions c ≤ 1
+completions_le None = omega arith
+completions_le (Some n) = omega arith
 
 -- what is read off steps, of steps after steps
 pub machine_after_lem : (m : Machine) (past more : List Step) → machine_after m (past ++ more) ≡ machine_after (machine_after m past) more

@@ -1,4 +1,3 @@
-pub mod Stored
 pub mod Courses
 pub mod Loop
 pub mod Starting

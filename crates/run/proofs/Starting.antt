@@ -1,23 +1,28 @@
 -- The refusals of a whole run: what holds where none is given, each number exactly when, and what then becomes of the run.
 -- The laws, in this order: `clear_start`, `start_one`, `start_two`, `start_three`, `start_four`.
-use mathlib.Core.Path.{◌≡◌}
+use mathlib.Core.Path.{◌≡◌, refl, ◌∙◌, sym, ap}
 use mathlib.Core.Bool.{Bool, true, false, not}
 use mathlib.Core.List.{List, [], ◌∷◌}
 use mathlib.Core.Logic.{◌↔◌}
 use Prim.Native.Nat.{ℕ, ◌*◌, ◌%◌, ◌≤◌}
 use native.Mathlib.Omega.{arith}
 use lib.Dec.{T, eqb, ltb}
-use borrow.Author.Tests.{eqb-true, eq-eqb, ltb-false, le-ltb, not-false}
+use lib.ListN.{length}
+use borrow.Author.Tests.{eqb-true, eq-eqb, ne_eqb, ltb-false, le-ltb, not-false}
 use Rattle.choice.specs.Checks.{check, refusal, clear}
 use Rattle.choice.specs.Tells.{refused}
 use Rattle.choice.proofs.Checks.{positive, cleared, exactly}
 use Rattle.choice.proofs.Picks.{picked, unpicked}
+use Rattle.refusals.specs.declared.Refusal.{Refusal}
+use Rattle.refusals.specs.Numbers.{number_of}
+use Rattle.refusals.proofs.Laws.{number_of_positive}
 use Rattle.machine.specs.declared.Waiting.{Waiting}
 use Rattle.machine.specs.declared.Machine.{Machine}
 use Rattle.machine.specs.Judging.{may_start}
+use Rattle.run.specs.declared.Ending.TheVariants.{Refused}
 use Rattle.run.specs.Splitting.{words_per_cycle, cycles_in, cycles_of, words_per_report}
 use Rattle.run.specs.Courses.{closing, run_from}
-use Rattle.run.specs.Runs.{most_cycles, start_checks, start_refusal, run_of}
+use Rattle.run.specs.Runs.{most_cycles, start_checks, start_refusal, run_of, Gives}
 
 -- by the word that waits, the number of words and the room
 module _ (waiting : Waiting) (words room : ℕ) where
@@ -82,3 +87,11 @@ started m words budget room e = picked (eqb (start_refusal m words room) 0) (run
 pub refused_whole : (m : Machine) (words : List ℕ) (budget room : ℕ) → eqb (start_refusal m words room) 0 ≡ false → run_of m words budget room ≡ closing (refused (start_refusal m words room))
 unfolding run_of
 refused_whole m words budget room e = unpicked (eqb (start_refusal m words room) 0) (run_from m budget (cycles_of words)) (closing (refused (start_refusal m words room))) e
+
+pub refused_start : (m : Machine) (words : List ℕ) (budget : ℕ) (reports : List ℕ) (k : Refusal) → number_of k ≡ start_refusal m words (length reports)
+    → Gives m (run_of m words budget (length reports)) (record { machine = m; ending = Refused (number_of k) 0; accepted = 0; completed = 0 }) reports reports
+refused_start m words budget reports k e =
+    let positive : eqb (start_refusal m words (length reports)) 0 ≡ false = ne_eqb _ 0 (λ z. number_of_positive k (e ∙ z)) in
+    let closed : run_of m words budget (length reports) ≡ closing (refused (number_of k)) =
+    refused_whole m words budget (length reports) positive ∙ ap (λ (k : ℕ). closing (refused k)) (sym e) in
+    rw closed (record { answer = refl; written = refl })

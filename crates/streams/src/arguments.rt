@@ -1,5 +1,5 @@
 // What a program was started with.
-ghost use Rattle.std.specs.Prelude.{◌≤◌, length};
+ghost use Rattle.std.specs.Prelude.{◌≤◌, length, IfSome};
 
 use std::env::FillError;
 use std::fs::File;
@@ -8,18 +8,14 @@ use std::str;
 
 // Whether there is such an argument. The first one after the program's name is argument 1.
 pub fn has_argument(env: &impl Env, argument: usize) -> bool {
-    let mut start = [0u8; 1];
-    match env.arg(argument, &mut start) {
-        Err(FillError::NotPresent) => false,
-        _ => true,
-    }
+    !matches!(env.arg(argument, &mut [0; 1]), Err(FillError::NotPresent))
 }
 
-// Puts an argument at the start of a slice, and answers how long it is: 0 where there is no such argument, or where it has no room.
-pub fn argument(env: &impl Env, argument: usize, bytes: &mut [u8]) -> usize
-    ensures { result ≤ length bytes.new }
+// Puts an argument at the start of a slice, and answers how long it is, if there is such an argument and it has room.
+pub fn argument(env: &impl Env, argument: usize, bytes: &mut [u8]) -> Option<usize>
+    ensures { IfSome result (λ n. n ≤ length bytes.new) }
 {
-    env.arg(argument, bytes).unwrap_or(0)
+    env.arg(argument, bytes).ok()
 }
 
 // The file of a name, open for reading, if there is one.

@@ -3,11 +3,11 @@
 #![tactic(auto)]
 
 mod arguments; // arguments.rt: what a program was started with
+mod digits; // digits.rt: numbers that stand in a text as digits
 mod reading; // reading.rt: input, and whether it could be read
 mod writing; // writing.rt: output, and whether it went out
-mod printing; // printing.rt: what a program prints with nobody to tell where it fails
 
 pub use arguments::{argument, has_argument, open};
-pub use printing::{print, print_number};
-pub use reading::{Input, fill};
-pub use writing::write_all;
+pub use digits::{decimal, hex};
+pub use reading::{ReadFailed, fill};
+pub use writing::{WriteFailed, write_all};

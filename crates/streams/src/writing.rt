@@ -1,42 +1,41 @@
 // Output, and whether it went out.
-ghost use Rattle.std.specs.Prelude.{◌≡◌, ℕ, ◌≤◌, IsTrue, length, take};
-ghost use Rattle.std.specs.Io.KnownBytes.{Appends};
+ghost use Rattle.std.specs.Prelude.{ℕ, take, OnOk};
+ghost use Rattle.std.specs.Io.{WritesAtMost};
+ghost use Rattle.std.specs.Io.KnownBytes.{Appends, WriteAppends};
 
 use crate::reading::interrupted;
-use std::io::Write;
+use std::io;
+use std::io::{Error, ErrorKind, Write};
 
-// One write, tried again where it is interrupted, and how many bytes went out: none where it fails. (The tries end only for the proof: there is
-// no time for so many.)
-fn write_once<W: Write>(output: &mut W, bytes: &[u8]) -> usize
-    ensures bound { result ≤ length bytes.now }
-    ensures prefix { result ≡ length (take result bytes.now) }
-    ensures written { Appends (W.contents output.old) (W.contents output.new) (take result bytes.now) }
+// A write that failed.
+#[derive(Clone, Copy, Debug, PartialEq, Eq)]
+pub struct WriteFailed;
+
+// One write, tried again as a read is. (The same loop over a closure would need a clause for what each call does to what the closure holds.)
+fn write_once<W: Write>(output: &mut W, bytes: &[u8]) -> io::Result<usize>
+    ensures bound { WritesAtMost result bytes.now }
+    ensures written { WriteAppends (W.contents output.old) (W.contents output.new) result bytes.now }
 {
     for _ in 0..u64::MAX {
         match output.write(bytes) {
-            Ok(count) => return count,
-            Err(error) => {
-                if !interrupted(&error) {
-                    return 0;
-                }
-            }
+            Err(error) if interrupted(&error) => {}
+            written => return written,
         }
     }
-    0
+    Err(Error::from(ErrorKind::Interrupted))
 }
 
-// Writes all of some bytes, and answers whether they went out. Where they did not, some of the first ones did.
-pub fn write_all<W: Write>(output: &mut W, bytes: &[u8]) -> bool
-    ensures all { IsTrue result → Appends (W.contents output.old) (W.contents output.new) bytes.now }
+// Writes all of some bytes. Where that fails, some of the first ones went out. The loop counts bytes and not turns, as in `fill`.
+pub fn write_all<W: Write>(output: &mut W, bytes: &[u8]) -> Result<(), WriteFailed>
+    ensures all { OnOk result (Appends (W.contents output.old) (W.contents output.new) bytes.now) }
     ensures some { (n : ℕ) × Appends (W.contents output.old) (W.contents output.new) (take n bytes.now) }
 {
     let mut done: usize = 0;
     while done < bytes.len() {
-        let put = write_once(output, &bytes[done..]);
-        if put == 0 {
-            return false;
+        match write_once(output, &bytes[done..]) {
+            Ok(0) | Err(_) => return Err(WriteFailed),
+            Ok(count) => done += count,
         }
-        done += put;
     }
-    true
+    Ok(())
 }

@@ -1,6 +1,7 @@
 -- Each call's outcome is determined by its statement, and a text may come in pieces.
 -- The laws, in this order: `start_unique`, `take_unique`, `take_some`, `left_some`, `in_pieces`, `two_calls`.
 use mathlib.Core.Path.{◌≡◌, refl, sym, ap, ◌∙◌}
+use Rattle.std.specs.Prelude.{Option, Some, None}
 use mathlib.Core.List.{List, [], ◌∷◌, ◌++◌}
 use Prim.Native.Nat.{ℕ, suc, ◌+◌, ◌-◌, ◌≤◌, ◌<◌}
 use native.Mathlib.Omega.{arith}
@@ -8,7 +9,7 @@ use lib.ListN.{length, take, drop, length-take, length-drop}
 use Rattle.text.specs.declared.Expected.{Expected}
 use Rattle.text.specs.declared.Met.{Met}
 use Rattle.text.specs.declared.Reader.{Reader}
-use Rattle.text.specs.declared.Stop.{Stop}
+use Rattle.text.specs.declared.Fault.{Fault}
 use Rattle.text.specs.declared.Taken.{Taken}
 use Rattle.text.specs.Taking.{start_of, passed, kept_word, with_word, with_fault, fault_at, Took, stops_at, move_at, met_by, take_from, Takes, goes_on}
 
@@ -50,7 +51,7 @@ some_bytes i s (b ∷ text) words =
     bytes_by (move_at s b).met i (i + suc (length text))
     (take_from (suc i) next text words)
     (λ y. take_from (suc i) (with_word next (length words)) text (kept_word s.found y words))
-    (λ e. stops_at (with_fault next) (suc i) (Stop.Bad (fault_at s e)) words)
+    (λ e. stops_at (with_fault next) (suc i) (Some (fault_at s e)) words)
     (on.0, omega (arith, on.1))
     (λ y. let kept = some_bytes (suc i) (with_word next (length words)) text (kept_word s.found y words) in (kept.0, omega (arith, kept.1)))
     (λ e. (omega arith, omega arith)) in
@@ -80,18 +81,18 @@ pub in_pieces : (i : ℕ) (s : Reader) (text rest words : List ℕ) → take_fro
 unfolding take_from
 in_pieces i s [] rest words = refl
 in_pieces i s (b ∷ text) rest words =
-    by_met (move_at s b).met rest _ _ _ _ (λ e. stops_at (with_fault (passed s (move_at s b) b)) (suc i) (Stop.Bad (fault_at s e)) words)
+    by_met (move_at s b).met rest _ _ _ _ (λ e. stops_at (with_fault (passed s (move_at s b) b)) (suc i) (Some (fault_at s e)) words)
     (in_pieces (suc i) (passed s (move_at s b) b) text rest words)
     (λ y. in_pieces (suc i) (with_word (passed s (move_at s b) b) (length words)) text rest (kept_word s.found y words))
     (λ e. refl)
 
-goes_on_lem : (t : Took) (rest : List ℕ) → t.taken.stop ≡ Stop.TextEnd → goes_on t rest ≡ take_from t.taken.bytes t.taken.reader rest t.words
+goes_on_lem : (t : Took) (rest : List ℕ) → t.taken.fault ≡ None → goes_on t rest ≡ take_from t.taken.bytes t.taken.reader rest t.words
 goes_on_lem t rest e =
-    ap (λ (x : Stop). elim x as (λ (y : Stop). Took) [ Stop.TextEnd ↦ take_from t.taken.bytes t.taken.reader rest t.words | Stop.Bad f ↦ t ]) e
+    ap (λ (x : Option Fault). elim x as (λ (y : Option Fault). Took) [ None ↦ take_from t.taken.bytes t.taken.reader rest t.words | Some f ↦ t ]) e
 
 -- bytes that were taken before
 abbrev later : ℕ → Took → Took
-later i t = record { taken = record { reader = t.taken.reader; bytes = i + t.taken.bytes; stop = t.taken.stop }; words = t.words }
+later i t = record { taken = record { reader = t.taken.reader; bytes = i + t.taken.bytes; fault = t.taken.fault }; words = t.words }
 
 later_by : (x : Met) (i : ℕ) (n m : Took) (w v : ℕ → Took) (f g : Expected → Took) → n ≡ later i m → ((y : ℕ) → w y ≡ later i (v y))
     → ((e : Expected) → f e ≡ later i (g e)) → met_by x n w f ≡ later i (met_by x m v g)
@@ -101,7 +102,7 @@ later_by (Met.Fault e) i n m w v f g p q r = r e
 
 from_later : (i j k : ℕ) (s : Reader) (text words : List ℕ) → k ≡ i + j → take_from k s text words ≡ later i (take_from j s text words)
 unfolding take_from
-from_later i j k s [] words e = ap (λ (n : ℕ). stops_at s n Stop.TextEnd words) e
+from_later i j k s [] words e = ap (λ (n : ℕ). stops_at s n None words) e
 from_later i j k s (b ∷ text) words e =
     let next = passed s (move_at s b) b in
     let on : suc k ≡ i + suc j = omega arith in
@@ -110,26 +111,26 @@ from_later i j k s (b ∷ text) words e =
     (take_from (suc j) next text words)
     (λ y. take_from (suc k) (with_word next (length words)) text (kept_word s.found y words))
     (λ y. take_from (suc j) (with_word next (length words)) text (kept_word s.found y words))
-    (λ x. stops_at (with_fault next) (suc k) (Stop.Bad (fault_at s x)) words)
-    (λ x. stops_at (with_fault next) (suc j) (Stop.Bad (fault_at s x)) words)
+    (λ x. stops_at (with_fault next) (suc k) (Some (fault_at s x)) words)
+    (λ x. stops_at (with_fault next) (suc j) (Some (fault_at s x)) words)
     (from_later i (suc j) (suc k) next text words on)
     (λ y. from_later i (suc j) (suc k) (with_word next (length words)) text (kept_word s.found y words) on)
-    (λ x. ap (λ (n : ℕ). stops_at (with_fault next) n (Stop.Bad (fault_at s x)) words) on)
+    (λ x. ap (λ (n : ℕ). stops_at (with_fault next) n (Some (fault_at s x)) words) on)
 
 -- two calls, the second where the first came to the end of its piece: they are one call on both pieces
-pub two_calls : (s : Reader) (text rest : List ℕ) (r q : Taken) (before between after : List ℕ) → Takes s text r before between → r.stop ≡ Stop.TextEnd
+pub two_calls : (s : Reader) (text rest : List ℕ) (r q : Taken) (before between after : List ℕ) → Takes s text r before between → r.fault ≡ None
     → Takes r.reader rest q between after
-    → Takes s (text ++ rest) (record { reader = q.reader; bytes = r.bytes + q.bytes; stop = q.stop }) before after
+    → Takes s (text ++ rest) (record { reader = q.reader; bytes = r.bytes + q.bytes; fault = q.fault }) before after
 two_calls s text rest r q before between after t e u = record {
-  taken = ap (λ (k : Taken). record { reader = k.reader; bytes = r.bytes + k.bytes; stop = k.stop }) u.taken ∙ ap (λ (k : Took). k.taken) whole;
+  taken = ap (λ (k : Taken). record { reader = k.reader; bytes = r.bytes + k.bytes; fault = k.fault }) u.taken ∙ ap (λ (k : Took). k.taken) whole;
   written = u.written ∙ ap (λ (k : Took). k.words) whole;
 }
   where
     first : Took
     first = take_from 0 s text before
 
-    ended : first.taken.stop ≡ Stop.TextEnd
-    ended = sym (ap (λ (k : Taken). k.stop) t.taken) ∙ e
+    ended : first.taken.fault ≡ None
+    ended = sym (ap (λ (k : Taken). k.fault) t.taken) ∙ e
 
     whole : later r.bytes (take_from 0 r.reader rest between) ≡ take_from 0 s (text ++ rest) before
     whole =

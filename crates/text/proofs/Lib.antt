@@ -1,4 +1,3 @@
-mod Among
 mod Turns
 pub mod Laws
 pub mod Reading

@@ -1,6 +1,7 @@
 -- What a text of whole lines is read as: digit by digit, word by word, line by line.
 -- The laws, in this order: `word_read`, `blank_read`, `feed_read`.
-use mathlib.Core.Path.{◌≡◌, refl, sym, ap, ◌∙◌}
+use Rattle.std.specs.Prelude.{Some, None}
+use mathlib.Core.Path.{◌≡◌, refl, ap, ◌∙◌}
 use mathlib.Core.Bool.{Bool, true, false}
 use mathlib.Core.List.{List, ◌∷◌}
 use Prim.Native.Nat.{ℕ, suc, ◌+◌, ◌/◌, ◌%◌, ◌<◌}
@@ -15,20 +16,20 @@ use Rattle.text.specs.Lines.{words_per_line, with_digit, move_of}
 use Rattle.text.specs.Taking.{one_more, passed, take_from, reader}
 
 -- b is a hex digit that is worth d
-module _ (b d : ℕ) (value : digit_value b ≡ d) (small : d < 16) where
-  other : (k : ℕ) → digit_value k ≡ 16 → eqb b k ≡ false
+module _ (b d : ℕ) (value : digit_value b ≡ Some d) where
+  other : (k : ℕ) → digit_value k ≡ None → eqb b k ≡ false
   other k e = by_test (eqb b k) refl
     where
       by_test : (t : Bool) → eqb b k ≡ t → t ≡ false
       by_test true q =
           let same : b ≡ k = eqb-true b k q in
-          let worth : digit_value b ≡ 16 = rw same e in
-          absurd (omega (arith, sym value ∙ worth))
+          let worth : digit_value b ≡ None = rw same e in
+          absurd (cc)
       by_test false q = refl
 
   digit_kind : kind_of b ≡ Kind.Digit d
   unfolding kind_of digit_value
-  digit_kind = rw (other 10 refl, other 35 refl, other 32 refl, other 9 refl, other 13 refl, value, lt-ltb d 16 small)
+  digit_kind = rw (other 10 refl, other 35 refl, other 32 refl, other 9 refl, other 13 refl, value)
 
   no_feed : eqb b line_feed ≡ false
   unfolding digit_value
@@ -59,15 +60,15 @@ four_digits x h =
     rw (top, last_digit_lem (x / 16 / 16) (omega arith), last_digit_lem (x / 16) (omega arith), last_digit_lem x h)
 
 -- four digits are a word
-pub word_read : (x b₃ b₂ b₁ b₀ : ℕ) → x < 65536 → digit_value b₃ ≡ x / 16 / 16 / 16 % 16 → digit_value b₂ ≡ x / 16 / 16 % 16 → digit_value b₁ ≡ x / 16 % 16 → digit_value b₀ ≡ x % 16
+pub word_read : (x b₃ b₂ b₁ b₀ : ℕ) → x < 65536 → digit_value b₃ ≡ Some (x / 16 / 16 / 16 % 16) → digit_value b₂ ≡ Some (x / 16 / 16 % 16) → digit_value b₁ ≡ Some (x / 16 % 16) → digit_value b₀ ≡ Some (x % 16)
     → (i l c w k f : ℕ) (rest words : List ℕ) → w < words_per_line → k < length words
     → take_from i (reader l c w Between k f) (b₃ ∷ b₂ ∷ b₁ ∷ b₀ ∷ rest) words
     ≡ take_from (suc (suc (suc (suc i)))) (reader l (one_more (one_more (one_more (one_more c)))) (w + 1) After (k + 1) f) rest (set words k x)
 word_read x b₃ b₂ b₁ b₀ small e₃ e₂ e₁ e₀ i l c w k f rest words h g =
-    begins b₃ _ e₃ (omega arith) i l c w k f _ words h
-    ∙ goes_on_lem b₂ _ e₂ (omega arith) (suc i) l _ w k 1 _ f _ words (omega arith)
-    ∙ goes_on_lem b₁ _ e₁ (omega arith) (suc (suc i)) l _ w k 2 _ f _ words (omega arith)
-    ∙ ends b₀ _ e₀ (omega arith) (suc (suc (suc i))) l _ w k _ f rest words h g
+    begins b₃ _ e₃ i l c w k f _ words h
+    ∙ goes_on_lem b₂ _ e₂ (suc i) l _ w k 1 _ f _ words (omega arith)
+    ∙ goes_on_lem b₁ _ e₁ (suc (suc i)) l _ w k 2 _ f _ words (omega arith)
+    ∙ ends b₀ _ e₀ (suc (suc (suc i))) l _ w k _ f rest words h g
     ∙ ap (λ (v : ℕ). take_from (suc (suc (suc (suc i)))) (reader l (one_more (one_more (one_more (one_more c)))) (w + 1) After (k + 1) f) rest (set words k v)) (four_digits x small)
 
 -- a blank after a word, and the line's end after the last

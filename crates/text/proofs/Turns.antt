@@ -1,5 +1,6 @@
 -- One byte more of a text, by what it brings.
 use mathlib.Core.Path.{◌≡◌, refl, sym, ap, ◌∙◌}
+use Rattle.std.specs.Prelude.{Some, None}
 use mathlib.Core.Bool.{Bool, true, false}
 use mathlib.Core.List.{List}
 use Prim.Native.Nat.{ℕ, suc, ◌+◌, ◌≤◌, ◌<◌}
@@ -13,7 +14,6 @@ use Rattle.text.specs.declared.Met.{Met}
 use Rattle.text.specs.declared.Move.{Move}
 use Rattle.text.specs.declared.Reader.{Reader}
 use Rattle.text.specs.declared.Fault.{Fault}
-use Rattle.text.specs.declared.Stop.{Stop}
 use Rattle.text.specs.Taking.{passed, kept_word, with_word, with_fault, fault_at, Took, stops_at, move_at, met_by, take_from}
 
 pub length_kept : (at x : ℕ) (words : List ℕ) → length (kept_word at x words) ≡ length words
@@ -37,7 +37,7 @@ module _ (text : List ℕ) (i : ℕ) (h : i < length text) (s : Reader) (words :
   word x = take_from (suc i) (with_word next (length words)) (drop (suc i) text) (kept_word s.found x words)
 
   abbrev fault : Expected → Took
-  fault e = stops_at (with_fault next) (suc i) (Stop.Bad (fault_at s e)) words
+  fault e = stops_at (with_fault next) (suc i) (Some (fault_at s e)) words
 
   opened : take_from i s (drop i text) words ≡ met_by (move_at s b).met nothing word fault
   unfolding take_from
@@ -59,9 +59,9 @@ module _ (text : List ℕ) (i : ℕ) (h : i < length text) (s : Reader) (words :
     turn_word x after r q ea er = rw (er, ea, length_kept s.found x words, is_next) (turn (Met.Word x) q)
 
     pub turn_fault : (e : Expected) (f : Fault) (r : Reader) → m.met ≡ Met.Fault e → f ≡ fault_at s e → r ≡ with_fault n
-        → stops_at r (i + 1) (Stop.Bad f) words ≡ take_from i s (drop i text) words
+        → stops_at r (i + 1) (Some f) words ≡ take_from i s (drop i text) words
     turn_fault e f r q ef er = rw (add-one, er, ef, is_next) (turn (Met.Fault e) q)
 
-pub turn_end : (text : List ℕ) (i : ℕ) (s : Reader) (words : List ℕ) → length text ≤ i → stops_at s i Stop.TextEnd words ≡ take_from i s (drop i text) words
+pub turn_end : (text : List ℕ) (i : ℕ) (s : Reader) (words : List ℕ) → length text ≤ i → stops_at s i None words ≡ take_from i s (drop i text) words
 unfolding take_from
 turn_end text i s words h = rw (drop_of_length-le text h)

@@ -1,5 +1,5 @@
 -- What a byte of a text is. Document 01 says nothing of traces as text: the form is ours (docs/DECISIONS.md).
-use Rattle.std.specs.Prelude.{ℕ, ◌-◌, Bool, true, false, eqb, leb, ltb}
+use Rattle.std.specs.Prelude.{ℕ, ◌-◌, Bool, true, false, eqb, leb, Option, Some, None}
 use Rattle.choice.specs.Pick.{pick}
 use Rattle.text.specs.declared.Kind.{Kind}
 use Rattle.text.specs.declared.Kind.TheVariants.{Over, Blank, Digit, Other}
@@ -19,12 +19,13 @@ is_blank b = pick (eqb b 32) true (pick (eqb b 9) true (eqb b 13))
 abbrev pub among : ℕ → ℕ → ℕ → Bool
 among first last b = pick (leb first b) (leb b last) false
 
--- what a hex digit is worth, small or capital ("0" is 48, "A" 65, "a" 97); `no_digit` for any other byte
-abbrev pub no_digit : ℕ
-no_digit = 16
+-- what a hex digit is worth, small or capital ("0" is 48, "A" 65, "a" 97); nothing for any other byte
+unfoldable pub digit_value : ℕ → Option ℕ
+digit_value b = pick (among 48 57 b) (Some (b - 48)) (pick (among 65 70 b) (Some (b - 55)) (pick (among 97 102 b) (Some (b - 87)) None))
 
-unfoldable pub digit_value : ℕ → ℕ
-digit_value b = pick (among 48 57 b) (b - 48) (pick (among 65 70 b) (b - 55) (pick (among 97 102 b) (b - 87) no_digit))
+abbrev pub digit_or_other : Option ℕ → Kind
+digit_or_other (Some v) = Digit v
+digit_or_other None = Other
 
 -- what a byte is in a line, whose words are over at its end and where a comment begins
 unfoldable pub kind_of : ℕ → Kind
@@ -32,4 +33,4 @@ kind_of b =
     pick (eqb b line_feed) Over
     (pick (eqb b comment_sign) Over
     (pick (is_blank b) Blank
-    (pick (ltb (digit_value b) no_digit) (Digit (digit_value b)) Other)))
+    (digit_or_other (digit_value b))))

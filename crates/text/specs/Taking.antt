@@ -1,5 +1,5 @@
 -- A text taken byte by byte, and the words that it leaves. The form of the text is ours (docs/DECISIONS.md).
-use Rattle.std.specs.Prelude.{◌≡◌, ℕ, suc, ◌+◌, List, [], ◌∷◌, length, set, eqb, ltb}
+use Rattle.std.specs.Prelude.{◌≡◌, ℕ, suc, ◌+◌, List, [], ◌∷◌, length, set, eqb, ltb, Option, Some, None}
 use Rattle.choice.specs.Pick.{pick}
 use Rattle.text.specs.declared.Place.TheVariants.{Between}
 use Rattle.text.specs.declared.Expected.{Expected}
@@ -7,7 +7,6 @@ use Rattle.text.specs.declared.Met.{Met}
 use Rattle.text.specs.declared.Move.{Move}
 use Rattle.text.specs.declared.Reader.{Reader}
 use Rattle.text.specs.declared.Fault.{Fault}
-use Rattle.text.specs.declared.Stop.{Stop}
 use Rattle.text.specs.declared.Taken.{Taken}
 use Rattle.text.specs.Bytes.{line_feed, kind_of}
 use Rattle.text.specs.Lines.{move_of}
@@ -59,8 +58,8 @@ pub record Took : Type 0 where
   pub taken : Taken
   pub words : List ℕ
 
-abbrev pub stops_at : Reader → ℕ → Stop → List ℕ → Took
-stops_at s i stop words = record { taken = record { reader = s; bytes = i; stop = stop }; words = words }
+abbrev pub stops_at : Reader → ℕ → Option Fault → List ℕ → Took
+stops_at s i f words = record { taken = record { reader = s; bytes = i; fault = f }; words = words }
 
 -- what the next byte of a text does
 abbrev pub move_at : Reader → ℕ → Move
@@ -74,12 +73,12 @@ met_by (Met.Fault e) nothing word fault = fault e
 
 -- the bytes of a text one after another, i of them taken already, up to the end or the first fault
 unfoldable pub take_from : ℕ → Reader → List ℕ → List ℕ → Took
-take_from i s [] words = stops_at s i Stop.TextEnd words
+take_from i s [] words = stops_at s i None words
 take_from i s (b ∷ bytes) words =
     met_by (move_at s b).met
     (take_from (suc i) (passed s (move_at s b) b) bytes words)
     (λ x. take_from (suc i) (with_word (passed s (move_at s b) b) (length words)) bytes (kept_word s.found x words))
-    (λ e. stops_at (with_fault (passed s (move_at s b) b)) (suc i) (Stop.Bad (fault_at s e)) words)
+    (λ e. stops_at (with_fault (passed s (move_at s b) b)) (suc i) (Some (fault_at s e)) words)
 
 -- what `take` promises: its answer, and the lent words before and after
 pub record Takes (s : Reader) (text : List ℕ) (r : Taken) (before after : List ℕ) : Type 0 where
@@ -88,7 +87,7 @@ pub record Takes (s : Reader) (text : List ℕ) (r : Taken) (before after : List
 
 -- for laws: what follows a piece of a text: the next piece, unless there was a fault
 abbrev pub goes_on : Took → List ℕ → Took
-goes_on t rest = elim t.taken.stop [ Stop.TextEnd ↦ take_from t.taken.bytes t.taken.reader rest t.words | Stop.Bad f ↦ t ]
+goes_on t rest = elim t.taken.fault [ None ↦ take_from t.taken.bytes t.taken.reader rest t.words | Some f ↦ t ]
 
 -- for laws: a reader, by its parts
 abbrev pub reader : ℕ → ℕ → ℕ → Place → ℕ → ℕ → Reader

@@ -1,49 +1,34 @@
 // What a byte of the text is.
 ghost use Rattle.std.specs.Prelude.{◌≡◌};
-ghost use Rattle.text.specs.Bytes.{is_blank, digit_value, kind_of};
+ghost use Rattle.text.specs.Bytes.{digit_value, kind_of};
 
 use crate::Kind;
 
-fn is_blank(byte: u8) -> bool
-    ensures { result ≡ is_blank byte }
-{
-    if byte == b' ' {
-        return true;
-    }
-    if byte == b'\t' {
-        return true;
-    }
-    byte == b'\r'
-}
-
-// What a hex digit is worth, or 16.
-fn digit_value(byte: u8) -> u8
+// What a hex digit is worth.
+#[tactic(auto, unfolding(crate::specs::Bytes::digit_value))]
+fn digit_value(byte: u8) -> Option<u8>
     ensures { result ≡ digit_value byte }
 {
     match byte {
-        b'0'..=b'9' => byte - 48,
-        b'A'..=b'F' => byte - 55,
-        b'a'..=b'f' => byte - 87,
-        _ => 16,
+        b'0'..=b'9' => Some(byte - b'0'),
+        b'A'..=b'F' => Some(byte - b'A' + 10),
+        b'a'..=b'f' => Some(byte - b'a' + 10),
+        _ => None,
     }
 }
 
+#[tactic(auto, unfolding(crate::specs::Bytes::kind_of))]
 pub(crate) fn kind_of(byte: u8) -> Kind
     ensures { result ≡ kind_of byte }
 {
-    if byte == b'\n' {
+    if matches!(byte, b'\n' | b'#') {
         return Kind::Over;
     }
-    if byte == b'#' {
-        return Kind::Over;
-    }
-    if is_blank(byte) {
+    if matches!(byte, b' ' | b'\t' | b'\r') {
         return Kind::Blank;
     }
-    let value = digit_value(byte);
-    if value < 16 {
-        Kind::Digit(value)
-    } else {
-        Kind::Other
+    match digit_value(byte) {
+        Some(value) => Kind::Digit(value),
+        None => Kind::Other,
     }
 }

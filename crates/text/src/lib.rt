@@ -6,7 +6,7 @@ mod bytes; // bytes.rt: what a byte is
 mod line; // line.rt: what a byte does to a line
 
 ghost use Rattle.std.specs.Prelude.{◌≡◌};
-ghost use Rattle.text.specs.Taking.{start_of, one_more, kept_word, passed, with_word, with_fault, fault_at, Takes};
+ghost use Rattle.text.specs.Taking.{start_of, kept_word, passed, with_word, with_fault, fault_at, Takes};
 
 use bytes::kind_of;
 use line::move_of;
@@ -41,7 +41,7 @@ pub enum Place {
     Rest,
 }
 
-// What a byte brings: nothing yet, a whole word, or a fault.
+// What a byte brings: nothing yet, a whole word, or a fault. Three ways, which a Result of an Option would only nest.
 #[derive(Clone, Copy)]
 pub(crate) enum Met {
     Nothing,
@@ -77,19 +77,13 @@ pub struct Fault {
     pub expected: Expected,
 }
 
-// Why a reader stopped: the text, or the piece of it, is at its end; or a line is bad.
-#[derive(Clone, Copy)]
-pub enum Stop {
-    TextEnd,
-    Bad(Fault),
-}
-
-// The reader after some bytes of a text, how many they are, and why it stopped.
+// The reader after some bytes of a text, how many they are, and the fault that it stopped at, if it is not at the end of the text or of
+// the piece of it.
 #[derive(Clone, Copy)]
 pub struct Taken {
     pub reader: Reader,
     pub bytes: usize,
-    pub stop: Stop,
+    pub fault: Option<Fault>,
 }
 
 // A reader before the first byte of a text.
@@ -106,77 +100,60 @@ pub fn start() -> Reader
     }
 }
 
-fn one_more(x: u64) -> u64
-    ensures { result ≡ one_more x }
-{
-    if x < u64::MAX { x + 1 } else { x }
-}
-
-// The reader after a byte.
-fn passed(reader: Reader, step: Move, byte: u8) -> Reader
-    ensures { result ≡ passed reader step byte }
-{
-    if byte == b'\n' {
-        return Reader {
-            line: one_more(reader.line),
-            column: 1,
-            words: 0,
-            place: Place::Between,
-            found: reader.found,
-            faults: reader.faults,
-        };
+impl Reader {
+    // The reader after a byte.
+    #[tactic(auto, unfolding(crate::specs::Taking::passed))]
+    fn passed(self, step: Move, byte: u8) -> Reader
+        ensures { result ≡ passed self step byte }
+    {
+        if byte == b'\n' {
+            Reader {
+                line: self.line.saturating_add(1),
+                column: 1,
+                words: 0,
+                place: Place::Between,
+                ..self
+            }
+        } else {
+            Reader {
+                column: self.column.saturating_add(1),
+                words: step.words,
+                place: step.place,
+                ..self
+            }
+        }
     }
-    let place = step.place;
-    Reader {
-        line: reader.line,
-        column: one_more(reader.column),
-        words: step.words,
-        place: place,
-        found: reader.found,
-        faults: reader.faults,
-    }
-}
 
-fn with_word(reader: Reader, room: usize) -> Reader
-    ensures { result ≡ with_word reader room }
-{
-    let place = reader.place;
-    let found = if reader.found < room {
-        reader.found + 1
-    } else {
-        reader.found
-    };
-    Reader {
-        line: reader.line,
-        column: reader.column,
-        words: reader.words,
-        place: place,
-        found: found,
-        faults: reader.faults,
+    fn with_word(self, room: usize) -> Reader
+        ensures { result ≡ with_word self room }
+    {
+        if self.found < room {
+            Reader {
+                found: self.found + 1,
+                ..self
+            }
+        } else {
+            self
+        }
     }
-}
 
-fn with_fault(reader: Reader) -> Reader
-    ensures { result ≡ with_fault reader }
-{
-    let place = reader.place;
-    Reader {
-        line: reader.line,
-        column: reader.column,
-        words: reader.words,
-        place: place,
-        found: reader.found,
-        faults: one_more(reader.faults),
+    fn with_fault(self) -> Reader
+        ensures { result ≡ with_fault self }
+    {
+        Reader {
+            faults: self.faults.saturating_add(1),
+            ..self
+        }
     }
-}
 
-fn fault_at(reader: Reader, expected: Expected) -> Fault
-    ensures { result ≡ fault_at reader expected }
-{
-    Fault {
-        line: reader.line,
-        column: reader.column,
-        expected: expected,
+    fn fault_at(self, expected: Expected) -> Fault
+        ensures { result ≡ fault_at self expected }
+    {
+        Fault {
+            line: self.line,
+            column: self.column,
+            expected,
+        }
     }
 }
 
@@ -194,34 +171,27 @@ pub fn take(reader: Reader, text: &[u8], words: &mut [u16]) -> Taken
     ensures { Takes reader text.now result words.old words.new }
 {
     let mut state = reader;
-    let mut i: usize = 0;
-    while i < text.len() {
-        let byte = text[i];
-        let place = state.place;
-        let step = move_of(place, state.words, kind_of(byte));
-        let next = passed(state, step, byte);
-        let met = step.met;
-        i += 1;
-        match met {
-            Met::Nothing => {
-                state = next;
-            }
+    for (i, byte) in text.iter().enumerate() {
+        let step = move_of(state.place, state.words, kind_of(*byte));
+        let next = state.passed(step, *byte);
+        match step.met {
+            Met::Nothing => state = next,
             Met::Word(value) => {
                 keep(state.found, value, words);
-                state = with_word(next, words.len());
+                state = next.with_word(words.len());
             }
             Met::Fault(expected) => {
                 return Taken {
-                    reader: with_fault(next),
-                    bytes: i,
-                    stop: Stop::Bad(fault_at(state, expected)),
+                    reader: next.with_fault(),
+                    bytes: i + 1,
+                    fault: Some(state.fault_at(expected)),
                 };
             }
         }
     }
     Taken {
         reader: state,
-        bytes: i,
-        stop: Stop::TextEnd,
+        bytes: text.len(),
+        fault: None,
     }
 }

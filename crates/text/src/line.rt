@@ -1,6 +1,5 @@
 // What a byte does to the line that is being read.
 ghost use Rattle.std.specs.Prelude.{◌≡◌};
-ghost use Rattle.text.specs.declared.Place.TheVariants.{Between, Within, After};
 ghost use Rattle.text.specs.Lines.{move, fault, or_end, over, begun, with_digit, one_word_more, grown, move_of};
 
 use crate::{Expected, Kind, Met, Move, Place, WORDS_PER_LINE};
@@ -11,11 +10,7 @@ const LAST_DIGIT: u8 = 3;
 fn move_to(place: Place, words: usize, met: Met) -> Move
     ensures { result ≡ move place words met }
 {
-    Move {
-        place: place,
-        words: words,
-        met: met,
-    }
+    Move { place, words, met }
 }
 
 // A fault: the rest of the line is passed over.
@@ -40,13 +35,11 @@ fn or_end(words: usize, expected: Expected) -> Expected
 fn over(words: usize) -> Move
     ensures { result ≡ over words }
 {
-    if words == 0 {
-        return move_to(Place::Rest, words, Met::Nothing);
+    if words == 0 || words >= WORDS_PER_LINE {
+        move_to(Place::Rest, words, Met::Nothing)
+    } else {
+        fault(words, Expected::Word)
     }
-    if words < WORDS_PER_LINE {
-        return fault(words, Expected::Word);
-    }
-    move_to(Place::Rest, words, Met::Nothing)
 }
 
 // A digit where a word may begin.
@@ -83,52 +76,29 @@ fn grown(digits: u8, value: u16, words: usize, digit: u8) -> Move
 {
     let longer = with_digit(value, digit);
     if digits < LAST_DIGIT {
-        return move_to(Place::Within(digits + 1, longer), words, Met::Nothing);
-    }
-    move_to(Place::After, one_word_more(words), Met::Word(longer))
-}
-
-fn between(words: usize, kind: Kind) -> Move
-    ensures { result ≡ move_of Between words kind }
-{
-    match kind {
-        Kind::Over => over(words),
-        Kind::Blank => move_to(Place::Between, words, Met::Nothing),
-        Kind::Digit(digit) => begun(words, digit),
-        Kind::Other => fault(words, or_end(words, Expected::Digit)),
-    }
-}
-
-fn within(digits: u8, value: u16, words: usize, kind: Kind) -> Move
-    ensures { result ≡ move_of (Within digits value) words kind }
-{
-    match kind {
-        Kind::Over => fault(words, Expected::Digit),
-        Kind::Blank => fault(words, Expected::Digit),
-        Kind::Digit(digit) => grown(digits, value, words, digit),
-        Kind::Other => fault(words, Expected::Digit),
-    }
-}
-
-fn after(words: usize, kind: Kind) -> Move
-    ensures { result ≡ move_of After words kind }
-{
-    match kind {
-        Kind::Over => over(words),
-        Kind::Blank => move_to(Place::Between, words, Met::Nothing),
-        Kind::Digit(_) => fault(words, or_end(words, Expected::Blank)),
-        Kind::Other => fault(words, or_end(words, Expected::Blank)),
+        move_to(Place::Within(digits + 1, longer), words, Met::Nothing)
+    } else {
+        move_to(Place::After, one_word_more(words), Met::Word(longer))
     }
 }
 
 // By the place in the line, how many of its words are read, and what the byte is.
+#[tactic(auto, unfolding(crate::specs::Lines::move_of))]
 pub(crate) fn move_of(place: Place, words: usize, kind: Kind) -> Move
     ensures { result ≡ move_of place words kind }
 {
-    match place {
-        Place::Between => between(words, kind),
-        Place::Within(digits, value) => within(digits, value, words, kind),
-        Place::After => after(words, kind),
-        Place::Rest => move_to(Place::Rest, words, Met::Nothing),
+    match (place, kind) {
+        (Place::Between | Place::After, Kind::Over) => over(words),
+        (Place::Between | Place::After, Kind::Blank) => {
+            move_to(Place::Between, words, Met::Nothing)
+        }
+        (Place::Between, Kind::Digit(digit)) => begun(words, digit),
+        (Place::Between, Kind::Other) => fault(words, or_end(words, Expected::Digit)),
+        (Place::Within(digits, value), Kind::Digit(digit)) => grown(digits, value, words, digit),
+        (Place::Within(_, _), _) => fault(words, Expected::Digit),
+        (Place::After, Kind::Digit(_) | Kind::Other) => {
+            fault(words, or_end(words, Expected::Blank))
+        }
+        (Place::Rest, _) => move_to(Place::Rest, words, Met::Nothing),
     }
 }

@@ -11,26 +11,43 @@ use Rattle.choice.specs.Checks.{check, refusal}
 use Rattle.choice.proofs.Checks.{positive, cleared}
 use Rattle.choice.proofs.Tells.{whole_one}
 use Rattle.choice.specs.Tells.{Placed, accepted_whole, refused_at}
-use Rattle.trace.specs.declared.Filled.TheVariants.{Accepted, Refused}
+use Rattle.std.specs.Prelude.{Ok, Err}
+use Rattle.refusals.specs.declared.Refused.{Refused}
+use Rattle.refusals.specs.declared.Refusal.{Refusal}
+use Rattle.refusals.specs.Numbers.{number_of, whole}
 use Rattle.trace.specs.Layout.{block_bytes}
 use Rattle.trace.specs.Answers.{leaves, Fills}
 use Rattle.run.specs.Runs.{most_cycles}
 use Rattle.trace.specs.Limits.{blocks_for, most_blocks}
 use Rattle.trace.specs.Reading.{trace_blocks, block_refusals, after_blocks, record_count, whole_checks, end_checks, read_end, read_of}
 use Rattle.trace.specs.Writing.{write_checks, write_of}
+use Rattle.std.specs.Simd.{first_chunks}
+use Rattle.trace.proofs.Parts.{blocks_cut}
 use Rattle.trace.proofs.Judged.{all_sound, one_refused, sound_first}
 
 -- an answer and the lent output, by what the definition tells
 module _ {answer : Placed ℕ} {made before : List ℕ} where
-  pub refuses : (k i : ℕ) → refused_at k i ≡ answer → Fills answer made (Refused k i) before before
-  refuses k i e = record { told = e; written = ap (λ (a : Placed ℕ). leaves a made before) e }
+  pub refuses : (r : Refused) → refused_at (number_of r.refusal) r.index ≡ answer → Fills answer made (Err r) before before
+  refuses r e = record { told = e; written = ap (λ (a : Placed ℕ). leaves a made before) e }
 
-  pub accepts : (n : ℕ) (after : List ℕ) → accepted_whole n ≡ answer → after ≡ made ++ drop n before → Fills answer made (Accepted n) before after
+  pub refuses_whole : (k : Refusal) (r : Refused) → r ≡ whole k → refused_at (number_of k) 0 ≡ answer → Fills answer made (Err r) before before
+  refuses_whole k r er e = rw er (refuses (whole k) e)
+
+  pub accepts : (n : ℕ) (after : List ℕ) → accepted_whole n ≡ answer → after ≡ made ++ drop n before → Fills answer made (Ok n) before after
   accepts n after e f = record { told = e; written = f ∙ ap (λ (a : Placed ℕ). leaves a made before) e }
 
 -- the blocks of a trace judged, and how many records they have
 abbrev pub judgement : ℕ → List ℕ → Placed ℕ
 judgement w t = after_blocks 0 (block_refusals w 0 (trace_blocks t)) (accepted_whole (record_count (trace_blocks t)))
+
+-- the code judges the blocks that it cuts a trace into, and where all are accepted it has counted their records
+module _ (w : ℕ) where
+  pub judged_cut : (t : List ℕ) (blocks : List (List ℕ)) (answer : Placed ℕ) → blocks ≡ first_chunks 512 (length t / block_bytes) t
+      → answer ≡ after_blocks 0 (block_refusals w 0 blocks) (accepted_whole (record_count blocks)) → judgement w t ≡ answer
+  judged_cut t blocks answer cut e = rw (blocks_cut, ← cut) (sym e)
+
+  pub counted : (blocks : List (List ℕ)) (n : ℕ) → accepted_whole n ≡ after_blocks 0 (block_refusals w 0 blocks) (accepted_whole (record_count blocks)) → record_count blocks ≡ n
+  counted blocks n e = whole_one (record_count blocks) n (all_sound (block_refusals w 0 blocks) 0 n (accepted_whole (record_count blocks)) (sym e)).0
 
 module _ (w : ℕ) (t : List ℕ) (room : ℕ) where
   pub read_11 : (length t % block_bytes ≡ 0 → ⊥) → refused_at 11 0 ≡ read_of w t room

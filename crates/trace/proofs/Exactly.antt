@@ -5,17 +5,19 @@ use mathlib.Core.Path.{◌≡◌, refl, sym, ap, subst, ◌∙◌}
 use mathlib.Core.Bool.{Bool, true, false, not}
 use mathlib.Core.Logic.{◌↔◌}
 use mathlib.Core.List.{List, [], ◌∷◌}
-use Prim.Native.Nat.{ℕ, zero, suc, ◌+◌, ◌*◌, ◌/◌, ◌%◌, ◌≤◌, ◌<◌}
+use Prim.Native.Nat.{ℕ, zero, suc, ◌+◌, ◌-◌, ◌*◌, ◌/◌, ◌%◌, ◌≤◌, ◌<◌}
 use native.Mathlib.Nat.{zero-add}
 use native.Mathlib.Omega.{arith}
 use lib.Dec.{T, eqb, ltb}
 use borrow.Author.Tests.{eqb-true, eqb-false, eq-eqb, ne_eqb}
+use lib.ListN.{length, get_or}
+use Rattle.choice.specs.Pick.{pick}
 use Rattle.choice.specs.Checks.{check, refusal, clear}
 use Rattle.choice.specs.Tells.{Placed, accepted_whole, refused_at}
 use Rattle.choice.proofs.Checks.{positive, exactly}
 use Rattle.choice.proofs.Tells.{refused_at_one, whole_refused}
 use Rattle.choice.proofs.Picks.{picked, unpicked}
-use Rattle.trace.specs.Layout.{block_bytes, word_at}
+use Rattle.trace.specs.Layout.{block_bytes, part, word_at}
 use Rattle.trace.specs.Blocks.{check_good, shape_good, block_refusal}
 use Rattle.trace.specs.Answers.{or_refused}
 use Rattle.run.specs.Runs.{most_cycles}
@@ -23,7 +25,8 @@ use Rattle.trace.specs.Limits.{most_blocks, blocks_for}
 use Rattle.trace.specs.Reading.{trace_blocks, block_refusals, after_blocks, record_count, whole_checks, end_checks, read_end, read_of}
 use Rattle.trace.specs.Writing.{write_checks, write_of}
 use Rattle.trace.specs.Refusing.{block_count, whole_number, block_number, end_number, Refuses, by_length, by_block, by_end}
-use Rattle.trace.proofs.Judged.{after_from, after_all, after_none, after_step}
+use Rattle.trace.proofs.Parts.{length_blocks, block_at}
+use Rattle.trace.proofs.Judged.{number, after_from, after_none, after_step}
 
 -- the checks of a whole trace, by its length
 module _ (w bytes : ℕ) where
@@ -124,15 +127,25 @@ unfolding write_of
 write_refuses w n room k i some = checks_decide (refusal (write_checks w n room)) (blocks_for n * block_bytes) k i some
 
 module _ (w : ℕ) (t : List ℕ) where
+  -- block i, where its number is 0, leaves the answer to the blocks after it
+  block_step : (i : ℕ) → i < block_count t → (rest : Placed ℕ)
+      → after_from w (trace_blocks t) i rest ≡ pick (eqb (block_number w t i) 0) (after_from w (trace_blocks t) (i + 1) rest) (refused_at (block_number w t i) i)
+  block_step i h rest =
+      let long : length (trace_blocks t) ≡ block_count t = length_blocks (block_count t) t in
+      let cut : get_or (trace_blocks t) i [] ≡ part (i * 512) (i * 512 + 512) t = block_at (block_count t) i t h in
+      let same : number w (trace_blocks t) i ≡ block_number w t i =
+      ap (λ (m : ℕ). block_refusal w i (m - i - 1) (get_or (trace_blocks t) i [])) long ∙ ap (block_refusal w i (block_count t - i - 1)) cut in
+      after_step w (trace_blocks t) i (omega (arith, long)) rest ∙ ap (λ (k : ℕ). pick (eqb k 0) (after_from w (trace_blocks t) (i + 1) rest) (refused_at k i)) same
+
   module _ (rest : Placed ℕ) where
     -- sound blocks are passed over
-    passed : (i : ℕ) → i ≤ block_count t → ((j : ℕ) → j < i → block_number w t j ≡ 0) → after_from w (block_count t) t 0 rest ≡ after_from w (block_count t) t i rest
+    passed : (i : ℕ) → i ≤ block_count t → ((j : ℕ) → j < i → block_number w t j ≡ 0) → after_from w (trace_blocks t) 0 rest ≡ after_from w (trace_blocks t) i rest
     passed zero h sound = refl
     passed (suc i) h sound =
         let next : i + 1 ≡ suc i = omega arith in
-        passed i (omega arith) (λ j l. sound j (omega arith)) ∙ after_step w (block_count t) t i (omega arith) rest
-        ∙ picked (eqb (block_number w t i) 0) (after_from w (block_count t) t (i + 1) rest) (refused_at (block_number w t i) i) (eq-eqb (block_number w t i) 0 (sound i (omega arith)))
-        ∙ ap (λ (j : ℕ). after_from w (block_count t) t j rest) next
+        passed i (omega arith) (λ j l. sound j (omega arith)) ∙ block_step i (omega arith) rest
+        ∙ picked (eqb (block_number w t i) 0) (after_from w (trace_blocks t) (i + 1) rest) (refused_at (block_number w t i) i) (eq-eqb (block_number w t i) 0 (sound i (omega arith)))
+        ∙ ap (λ (j : ℕ). after_from w (trace_blocks t) j rest) next
 
   -- all blocks are sound, or there is a first that is not
   data Found : Type 0 where
@@ -162,24 +175,24 @@ module _ (w : ℕ) (t : List ℕ) where
     unfolding read_of
     whole_decides n = refused_first (whole_number w t) (after_blocks 0 (block_refusals w 0 (trace_blocks t)) end) n
 
-    blocks_decide : whole_number w t ≡ 0 → read_of w t room ≡ after_from w (block_count t) t 0 end
+    blocks_decide : whole_number w t ≡ 0 → read_of w t room ≡ after_from w (trace_blocks t) 0 end
     unfolding read_of
-    blocks_decide e = rest_first (whole_number w t) (after_blocks 0 (block_refusals w 0 (trace_blocks t)) end) e ∙ sym (after_all w (block_count t) t end)
+    blocks_decide e = rest_first (whole_number w t) (after_blocks 0 (block_refusals w 0 (trace_blocks t)) end) e
 
-    block_decides : (i : ℕ) → i < block_count t → ((j : ℕ) → j < i → block_number w t j ≡ 0) → (block_number w t i ≡ 0 → ⊥) → after_from w (block_count t) t 0 end ≡ refused_at (block_number w t i) i
+    block_decides : (i : ℕ) → i < block_count t → ((j : ℕ) → j < i → block_number w t j ≡ 0) → (block_number w t i ≡ 0 → ⊥) → after_from w (trace_blocks t) 0 end ≡ refused_at (block_number w t i) i
     block_decides i h sound n =
-        passed end i (omega arith) sound ∙ after_step w (block_count t) t i h end
-        ∙ unpicked (eqb (block_number w t i) 0) (after_from w (block_count t) t (i + 1) end) (refused_at (block_number w t i) i) (ne_eqb (block_number w t i) 0 n)
+        passed end i (omega arith) sound ∙ block_step i h end
+        ∙ unpicked (eqb (block_number w t i) 0) (after_from w (trace_blocks t) (i + 1) end) (refused_at (block_number w t i) i) (ne_eqb (block_number w t i) 0 n)
 
-    end_decides : ((j : ℕ) → j < block_count t → block_number w t j ≡ 0) → after_from w (block_count t) t 0 end ≡ end
-    end_decides sound = passed end (block_count t) (omega arith) sound ∙ after_none w (block_count t) t (block_count t) end (omega arith)
+    end_decides : ((j : ℕ) → j < block_count t → block_number w t j ≡ 0) → after_from w (trace_blocks t) 0 end ≡ end
+    end_decides sound = passed end (block_count t) (omega arith) sound ∙ after_none w (trace_blocks t) (block_count t) end (omega (arith, length_blocks (block_count t) t))
 
     -- the reader refuses with k at i exactly when one of the three says so
     module _ (k i : ℕ) (some : k ≡ 0 → ⊥) where
       refused_by : read_of w t room ≡ refused_at k i → Refuses w t room k i
       refused_by e = by_test (eqb (whole_number w t) 0) refl
         where
-          by_found : whole_number w t ≡ 0 → after_from w (block_count t) t 0 end ≡ refused_at k i → Found → Refuses w t room k i
+          by_found : whole_number w t ≡ 0 → after_from w (trace_blocks t) 0 end ≡ refused_at k i → Found → Refuses w t room k i
           by_found z f (all_pass sound) =
               let given = (checks_decide (end_number w t room) (w * record_count (trace_blocks t)) k i some).0 (sym (end_decides sound) ∙ f) in
               by_end z sound given.0 given.1

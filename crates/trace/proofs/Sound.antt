@@ -7,7 +7,7 @@ use native.Mathlib.Omega.{arith}
 use native.Mathlib.Nat.{mul-div-le, mul-le-mul_left, le_trans}
 use lib.Dec.{eqb, leb}
 use lib.ListN.{length, get_or, length-take, length-drop}
-use borrow.Author.Tests.{eqb-true, eqb-false, eq-eqb, ne_eqb, leb-true, le-leb, not-true, not-false}
+use borrow.Author.Tests.{eqb-true, eqb-false, eq-eqb, ne_eqb, leb-true, le-leb, not-false}
 use Rattle.choice.specs.Pick.{pick}
 use Rattle.choice.specs.Checks.{check}
 use Rattle.choice.proofs.Checks.{positive, cleared}
@@ -42,43 +42,44 @@ count_is_good w left c p h f = by_test (eqb left 0) refl
     by_test true q = rw (le-leb 1 c p, le-leb c (full_count w) h)
     by_test false q = eq-eqb c (full_count w) (f (eqb-false left 0 q))
 
--- the ways out of shape_good: r is the answer on the count c
+-- the ways out of shape_good: r is whether the count c is good
 module _ (w left : ℕ) (block : List ℕ) (c : ℕ) (r : Bool) (er : r ≡ count_good w left c) (ec : c ≡ count_of block) where
-  pub shape_no_count : not r ≡ true → false ≡ shape_good w left block
+  pub shape_no_count : r ≡ false → false ≡ shape_good w left block
   unfolding shape_good
-  shape_no_count h = rw (← ec, ← er, not-true r h)
+  shape_no_count h = rw (← ec, ← er, h)
 
-  module _ (h : not r ≡ false) (form : ℕ) (em : form ≡ get_or block 3 0) where
+  module _ (h : r ≡ true) (form : ℕ) (em : form ≡ get_or block 3 0) where
     pub shape_no_form : (form ≡ form_byte w → ⊥) → false ≡ shape_good w left block
     unfolding shape_good
-    shape_no_form n = rw (← ec, ← er, not-false r h, ← em, ne_eqb form (form_byte w) n)
+    shape_no_form n = rw (← ec, ← er, h, ← em, ne_eqb form (form_byte w) n)
 
     pub shape_rest : form ≡ form_byte w → (z : Bool) → z ≡ all_zero (part (records_end w c) 510 block) → z ≡ shape_good w left block
     unfolding shape_good
-    shape_rest n z ez = rw (← ec, ← er, not-false r h, ← em, eq-eqb form (form_byte w) n, ← ez)
+    shape_rest n z ez = rw (← ec, ← er, h, ← em, eq-eqb form (form_byte w) n, ← ez)
 
 pub check_good_is : (sum held : ℕ) (block : List ℕ) → sum ≡ check_of (part 0 510 block) → held ≡ check_held block → eqb sum held ≡ check_good block
 unfolding check_good
 check_good_is sum held block es eh = rw (es, eh)
 
--- the ways out of block_refusal
+-- the ways out of judge_block
 module _ (w k left : ℕ) (block : List ℕ) (r : Bool) (er : r ≡ check_good block) where
-  pub refusal_12 : not r ≡ true → 12 ≡ block_refusal w k left block
+  pub refusal_12 : r ≡ false → 12 ≡ block_refusal w k left block
   unfolding block_refusal
-  refusal_12 h = rw (← er, not-true r h)
+  refusal_12 h = rw (← er, h)
 
-  module _ (h : not r ≡ false) (n : ℕ) (en : n ≡ word_at block 0) where
+  module _ (h : r ≡ true) (n : ℕ) (en : n ≡ word_at block 0) where
     pub refusal_13 : (n ≡ k → ⊥) → 13 ≡ block_refusal w k left block
     unfolding block_refusal
-    refusal_13 d = rw (← er, not-false r h, ← en, ne_eqb n k d)
+    refusal_13 d = rw (← er, h, ← en, ne_eqb n k d)
 
-    pub refusal_rest : n ≡ k → (s : Bool) → s ≡ shape_good w left block → pick s 0 14 ≡ block_refusal w k left block
-    unfolding block_refusal
-    refusal_rest e s q = rw (← er, not-false r h, ← en, eq-eqb n k e, ← q) (by_test s)
-      where
-        by_test : (s : Bool) → ◌≡◌ {A = ℕ} (pick s 0 14) (elim (not s) [ true ↦ 14 | false ↦ 0 ])
-        by_test true = refl
-        by_test false = refl
+    module _ (e : n ≡ k) (s : Bool) (es : s ≡ shape_good w left block) where
+      pub refusal_14 : s ≡ false → 14 ≡ block_refusal w k left block
+      unfolding block_refusal
+      refusal_14 f = rw (← er, h, ← en, eq-eqb n k e, ← es, f)
+
+      pub refusal_none : s ≡ true → 0 ≡ block_refusal w k left block
+      unfolding block_refusal
+      refusal_none f = rw (← er, h, ← en, eq-eqb n k e, ← es, f)
 
 -- what a sound block is known for
 module _ (w k left : ℕ) (block : List ℕ) (sound : block_refusal w k left block ≡ 0) where

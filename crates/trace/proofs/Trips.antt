@@ -8,8 +8,8 @@ use native.Mathlib.Nat.{mod-add-div, mul-le-mul_left, mul-mod_right, mul-div_can
 use lib.ListN.{length, take, drop}
 use lib.Seq.{take_at}
 use Rattle.choice.specs.Tells.{Placed, accepted_whole}
-use Rattle.trace.specs.declared.Filled.{Filled}
-use Rattle.trace.specs.declared.Filled.TheVariants.{Accepted}
+use Rattle.std.specs.Prelude.{Result, Ok}
+use Rattle.refusals.specs.declared.Refused.{Refused}
 use Rattle.trace.specs.Layout.{block_bytes, full_count, Bytes}
 use Rattle.trace.specs.Answers.{leaves}
 use Rattle.run.specs.Runs.{most_cycles}
@@ -70,9 +70,9 @@ pub left_by : (answer : Placed ℕ) (n : ℕ) (made before after : List ℕ) →
 left_by answer n made before after e f = f ∙ ap (λ (a : Placed ℕ). leaves a made before) e
 
 -- what `write` makes, `read` gives back: all of it
-pub written_read : (words : List ℕ) (n : ℕ) (trace trace' : List ℕ) → Writes words (Accepted n) trace trace'
-    → (r : Filled) (cycles cycles' : List ℕ) → Reads (take n trace') r cycles cycles' → length words ≤ length cycles
-    → (r ≡ Accepted (length words)) × (cycles' ≡ words ++ drop (length words) cycles)
+pub written_read : (words : List ℕ) (n : ℕ) (trace trace' : List ℕ) → Writes words (Ok n) trace trace'
+    → (r : Result ℕ Refused) (cycles cycles' : List ℕ) → Reads (take n trace') r cycles cycles' → length words ≤ length cycles
+    → (r ≡ Ok (length words)) × (cycles' ≡ words ++ drop (length words) cycles)
 written_read words n trace trace' w r cycles cycles' f enough =
     let says = write_says 3 (length words) (length trace) n (sym w.told) in
     let long : length (trace_of 3 words) ≡ n = made_trace_long 3 (blocks_for (length words)) 0 words ∙ says.3 in
@@ -81,15 +81,15 @@ written_read words n trace trace' w r cycles cycles' f enough =
     let back = read_made 3 (omega arith) three_words.0 words (length cycles) says.0 says.1 enough in
     let answer : read_of 3 (take n trace') (length cycles) ≡ accepted_whole (length words) = ap (λ (t : List ℕ). read_of 3 t (length cycles)) filled ∙ back.0 in
     let given : read_words 3 (take n trace') ≡ words = ap (read_words 3) filled ∙ back.1 in (
-      filled_one r (Accepted (length words)) (f.told ∙ answer),
+      filled_one r (Ok (length words)) (f.told ∙ answer),
       left_by (read_of 3 (take n trace') (length cycles)) (length words) (read_words 3 (take n trace')) cycles cycles' answer f.written
           ∙ ap (λ (l : List ℕ). l ++ drop (length words) cycles) given,
     )
 
 -- what `read` accepts, `write` makes again: byte for byte
-pub read_written : (t : List ℕ) (n : ℕ) (cycles cycles' : List ℕ) → Bytes t → Reads t (Accepted n) cycles cycles'
-    → (r : Filled) (trace trace' : List ℕ) → Writes (take n cycles') r trace trace' → length t ≤ length trace
-    → (r ≡ Accepted (length t)) × (trace' ≡ t ++ drop (length t) trace)
+pub read_written : (t : List ℕ) (n : ℕ) (cycles cycles' : List ℕ) → Bytes t → Reads t (Ok n) cycles cycles'
+    → (r : Result ℕ Refused) (trace trace' : List ℕ) → Writes (take n cycles') r trace trace' → length t ≤ length trace
+    → (r ≡ Ok (length t)) × (trace' ≡ t ++ drop (length t) trace)
 read_written t n cycles cycles' bytes f r trace trace' w enough =
     let again = made_read 3 (omega arith) three_words.0 t (length cycles) n (length trace) (sym f.told) bytes enough in
     let filled : take n cycles' ≡ read_words 3 t =
@@ -97,7 +97,7 @@ read_written t n cycles cycles' bytes f r trace trace' w enough =
     let answer : write_of 3 (length (take n cycles')) (length trace) ≡ accepted_whole (length t) =
     ap (λ (l : List ℕ). write_of 3 (length l) (length trace)) filled ∙ ap (λ (x : ℕ). write_of 3 x (length trace)) again.0 ∙ again.1 in
     let made : trace_of 3 (take n cycles') ≡ t = ap (trace_of 3) filled ∙ again.2 in (
-      filled_one r (Accepted (length t)) (w.told ∙ answer),
+      filled_one r (Ok (length t)) (w.told ∙ answer),
       left_by (write_of 3 (length (take n cycles')) (length trace)) (length t) (trace_of 3 (take n cycles')) trace trace' answer w.written
           ∙ ap (λ (l : List ℕ). l ++ drop (length t) trace) made,
     )

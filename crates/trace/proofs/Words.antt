@@ -1,13 +1,14 @@
--- Words and their bytes, low byte first; lists of zeros; and short lists written place by place.
+-- Words and their bytes, low byte first, and lists of zeros.
 use mathlib.Core.Path.{◌≡◌, refl}
-use mathlib.Core.Bool.{Bool, true, false}
-use mathlib.Core.List.{List, [], ◌∷◌, ◌++◌, append-nil, append_assoc}
-use Prim.Native.Nat.{ℕ, zero, suc, ◌+◌, ◌*◌, ◌/◌, ◌%◌, ◌≤◌, ◌<◌}
+use mathlib.Core.Bool.{Bool, true, false, ◌&&◌}
+use mathlib.Core.List.{List, [], ◌∷◌, ◌++◌, map}
+use Prim.Native.Nat.{ℕ, zero, suc, ◌+◌, ◌*◌, ◌/◌, ◌%◌, ◌<◌}
 use native.Mathlib.Omega.{arith}
 use native.Mathlib.Numerals.{add-one}
 use lib.Dec.{eqb}
-use lib.ListN.{length, set, take, drop, get_or, replicate, length-set, drop_of_length-le}
-use lib.Seq.{append_snoc, take-suc-set, take_all, drop-cons, get_or-drop}
+use Rattle.std.specs.Simd.{first_chunks}
+use lib.ListN.{length, take, drop, get_or, replicate}
+use lib.Seq.{drop-cons, get_or-drop}
 use borrow.Author.Tests.{eqb-true}
 use Rattle.choice.specs.Pick.{pick}
 use Rattle.choice.proofs.Spans.{never}
@@ -19,9 +20,9 @@ pub both_hold : (a b : Bool) → pick a b false ≡ true → (a ≡ true) × (b 
 both_hold true b e = (refl, e)
 both_hold false b e = absurd (never e)
 
--- a turn of the loop that looks for a byte that is not 0
-pub zero_step : (l : List ℕ) (i : ℕ) → i < length l → all_zero (drop i l) ≡ pick (eqb (get_or l i 0) 0) (all_zero (drop (i + 1) l)) false
-zero_step l i h = rw (add-one, drop-cons l i 0)
+pub pick_and : (a b : Bool) → pick a b false ≡ (a && b)
+pick_and true b = refl
+pick_and false b = refl
 
 pub zeros : (n : ℕ) → all_zero (replicate n 0) ≡ true
 zeros zero = refl
@@ -33,38 +34,31 @@ all_zeros (x ∷ l) e =
     let both = both_hold (eqb x 0) (all_zero l) e in
     rw (eqb-true x 0 both.0, ← all_zeros l both.1)
 
--- a turn of the loop that copies words out of bytes, and its end
-pub words_step : (l bytes : List ℕ) (i x : ℕ) → i < length l → 2 * i + 1 < length bytes → x ≡ get_or bytes (2 * i) 0 + 256 * get_or bytes (2 * i + 1) 0
-    → take (i + 1) (set l i x) ++ words_of (drop (2 * (i + 1)) bytes) ≡ take i l ++ words_of (drop (2 * i) bytes)
-words_step l bytes i x h g e =
-    let p : 2 * i < length bytes = omega arith in
-    let q : suc (2 * i) < length bytes = omega arith in
-    let f : 2 * (i + 1) ≡ suc (suc (2 * i)) = omega arith in
-    rw (f, add-one, take-suc-set, append_snoc, drop-cons bytes (2 * i) 0 p, drop-cons bytes (suc (2 * i)) 0 q, e, add-one)
+-- the words of bytes are those of the pairs that the code cuts them into
+abbrev pub word_of : List ℕ → ℕ
+word_of pair = get_or pair 0 0 + get_or pair 1 0 * 256
 
-pub words_none : (l bytes : List ℕ) (i : ℕ) → length bytes ≡ 2 * length l → length l ≤ i → take i l ++ words_of (drop (2 * i) bytes) ≡ l
-words_none l bytes i e h =
-    let p : length bytes ≤ 2 * i = omega arith in
-    rw (drop_of_length-le bytes p, take_all i l h, append-nil)
+pub words_cut : (n : ℕ) (bytes : List ℕ) → n ≡ length bytes / 2 → map word_of (first_chunks 2 n bytes) ≡ words_of bytes
+words_cut zero [] e = refl
+words_cut zero (a ∷ []) e = refl
+words_cut zero (a ∷ b ∷ bytes) e = absurd (omega arith)
+words_cut (suc n) [] e = absurd (omega arith)
+words_cut (suc n) (a ∷ []) e = absurd (omega arith)
+words_cut (suc n) (a ∷ b ∷ bytes) e =
+    let f : a + b * 256 ≡ a + 256 * b = omega arith in
+    rw (f, words_cut n bytes (omega arith))
 
 pub length_words : (l : List ℕ) → length (words_of l) ≡ length l / 2
 length_words [] = refl
 length_words (a ∷ []) = refl
 length_words (a ∷ b ∷ l) = omega (arith, length_words l)
 
--- a turn of the loop that puts words into bytes, and its end
-pub bytes_step : (l words : List ℕ) (i x y : ℕ) → i < length words → 2 * i + 1 < length l → x ≡ get_or words i 0 % 256 → y ≡ get_or words i 0 / 256
-    → take (2 * (i + 1)) (set (set l (2 * i) x) (2 * i + 1) y) ++ bytes_of (drop (i + 1) words) ≡ take (2 * i) l ++ bytes_of (drop i words)
-bytes_step l words i x y h g ex ey =
-    let f : 2 * (i + 1) ≡ suc (suc (2 * i)) = omega arith in
-    let p : 2 * i < length l = omega arith in
-    let q : suc (2 * i) < length (set l (2 * i) x) = simp length-set (omega arith) in
-    rw (f, add-one (2 * i), take-suc-set (set l (2 * i) x) (suc (2 * i)) y q, take-suc-set l (2 * i) x p, add-one i, drop-cons words i 0 h, ex, ey) (simp append_assoc)
-
-pub bytes_none : (l words : List ℕ) (i : ℕ) → length l ≡ 2 * length words → length words ≤ i → take (2 * i) l ++ bytes_of (drop i words) ≡ l
-bytes_none l words i e h =
-    let p : length l ≤ 2 * i = omega arith in
-    rw (drop_of_length-le words h, take_all (2 * i) l p, append-nil)
+-- a turn of the loop that puts words into bytes
+pub bytes_step : (words : List ℕ) (i : ℕ) → i < length words → get_or words i 0 < 65536
+    → bytes_of (drop i words) ≡ (get_or words i 0 % 256 ∷ get_or words i 0 / 256 % 256 ∷ []) ++ bytes_of (drop (i + 1) words)
+bytes_step words i h g =
+    let f : get_or words i 0 / 256 % 256 ≡ get_or words i 0 / 256 = omega arith in
+    rw (f, add-one i, drop-cons words i 0 h)
 
 pub length_bytes : (l : List ℕ) → length (bytes_of l) ≡ 2 * length l
 length_bytes [] = refl
@@ -94,21 +88,6 @@ bytes_words (a ∷ b ∷ l) e h =
     let low : (a + 256 * b) % 256 ≡ a = omega arith in
     let high : (a + 256 * b) / 256 ≡ b = omega arith in
     rw (low, high, bytes_words l (omega arith) (λ i. h (suc (suc i))))
-
--- a list of two, and of four, written place by place
-pub set_2 : (l : List ℕ) (a b : ℕ) → length l ≡ 2 → set (set l 0 a) 1 b ≡ a ∷ b ∷ []
-set_2 [] a b e = absurd (omega arith)
-set_2 (p ∷ []) a b e = absurd (omega arith)
-set_2 (p ∷ q ∷ []) a b e = refl
-set_2 (p ∷ q ∷ r ∷ l) a b e = absurd (omega arith)
-
-pub set_4 : (l : List ℕ) (a b c d : ℕ) → length l ≡ 4 → set (set (set (set l 0 a) 1 b) 2 c) 3 d ≡ a ∷ b ∷ c ∷ d ∷ []
-set_4 [] a b c d e = absurd (omega arith)
-set_4 (p ∷ []) a b c d e = absurd (omega arith)
-set_4 (p ∷ q ∷ []) a b c d e = absurd (omega arith)
-set_4 (p ∷ q ∷ r ∷ []) a b c d e = absurd (omega arith)
-set_4 (p ∷ q ∷ r ∷ s ∷ []) a b c d e = refl
-set_4 (p ∷ q ∷ r ∷ s ∷ t ∷ l) a b c d e = absurd (omega arith)
 
 pub none_left : (l : List ℕ) → length l ≡ 0 → l ≡ []
 none_left [] e = refl

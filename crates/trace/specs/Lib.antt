@@ -7,3 +7,4 @@ pub mod Limits
 pub mod Reading
 pub mod Writing
 pub mod Refusing
+pub mod Judging

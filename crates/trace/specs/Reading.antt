@@ -1,9 +1,9 @@
 -- The reader: a trace into cycle words (document 01, runs, blocks and refusal numbers).
-use Rattle.std.specs.Prelude.{ℕ, zero, suc, ◌+◌, ◌*◌, ◌/◌, ◌%◌, not, List, [], ◌∷◌, map, length, take, drop, eqb, ltb}
+use Rattle.std.specs.Prelude.{ℕ, zero, suc, ◌+◌, ◌*◌, ◌/◌, ◌%◌, not, List, [], ◌∷◌, map, length, take, drop, eqb, ltb, Result}
+use Rattle.refusals.specs.declared.Refused.{Refused}
 use Rattle.choice.specs.Pick.{pick}
 use Rattle.choice.specs.Checks.{Check, check, refusal}
 use Rattle.choice.specs.Tells.{Placed, accepted_whole, refused_at}
-use Rattle.trace.specs.declared.Filled.{Filled}
 use Rattle.run.specs.Runs.{most_cycles}
 use Rattle.trace.specs.Limits.{most_blocks}
 use Rattle.trace.specs.Layout.{words_per_record, block_bytes, joined}
@@ -57,5 +57,5 @@ read_of w trace room =
     (after_blocks 0 (block_refusals w 0 (trace_blocks trace)) (read_end w (record_count (trace_blocks trace)) room))
 
 -- what the reader promises: a trace, its answer, and the lent cycle words before and after
-abbrev pub Reads : List ℕ → Filled → List ℕ → List ℕ → Type 0
+abbrev pub Reads : List ℕ → Result ℕ Refused → List ℕ → List ℕ → Type 0
 Reads trace r before after = Fills (read_of words_per_record trace (length before)) (read_words words_per_record trace) r before after

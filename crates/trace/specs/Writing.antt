@@ -1,8 +1,8 @@
 -- The writer: cycle words into a trace (document 01, runs, blocks and refusal numbers).
-use Rattle.std.specs.Prelude.{ℕ, zero, suc, ◌+◌, ◌*◌, ◌/◌, ◌%◌, not, List, [], ◌∷◌, length, take, drop, eqb, ltb}
+use Rattle.std.specs.Prelude.{ℕ, zero, suc, ◌+◌, ◌*◌, ◌/◌, ◌%◌, not, List, [], ◌∷◌, length, take, drop, eqb, ltb, Result}
+use Rattle.refusals.specs.declared.Refused.{Refused}
 use Rattle.choice.specs.Checks.{Check, check, refusal}
 use Rattle.choice.specs.Tells.{Placed, accepted_whole}
-use Rattle.trace.specs.declared.Filled.{Filled}
 use Rattle.trace.specs.Layout.{words_per_record, block_bytes, block_words, joined}
 use Rattle.trace.specs.Blocks.{block_of}
 use Rattle.trace.specs.Answers.{or_refused, Fills}
@@ -27,5 +27,5 @@ unfoldable pub write_of : ℕ → ℕ → ℕ → Placed ℕ
 write_of w n room = or_refused (refusal (write_checks w n room)) (accepted_whole (blocks_for n * block_bytes))
 
 -- what the writer promises: cycle words, its answer, and the lent trace before and after
-abbrev pub Writes : List ℕ → Filled → List ℕ → List ℕ → Type 0
+abbrev pub Writes : List ℕ → Result ℕ Refused → List ℕ → List ℕ → Type 0
 Writes words r before after = Fills (write_of words_per_record (length words) (length before)) (trace_of words_per_record words) r before after

@@ -10,7 +10,7 @@ ghost use Rattle.trace.specs.Folding.{fold_bits};
 pub(crate) fn check_byte(register: u16, byte: u8) -> u16
     ensures { result ≡ fold_bits 8 register byte }
 {
-    let differ = (register >> 8) ^ byte as u16;
+    let differ = (register >> 8) ^ u16::from(byte);
     let fed = differ ^ (differ >> 4);
     let over = (fed << 12) ^ (fed << 5) ^ fed;
     (register << 8) ^ over

@@ -6,22 +6,20 @@ pub(crate) const WORDS_PER_RECORD: usize = 3;
 
 pub(crate) const BLOCK_WORDS: usize = 252;
 
-pub(crate) const ONE_WORD_LESS: usize = BLOCK_WORDS - 1;
-
 // The records of a full block.
 pub(crate) const FULL_COUNT: usize = BLOCK_WORDS / WORDS_PER_RECORD;
 
 pub(crate) const BLOCK_BYTES: usize = 512;
+
+pub(crate) type Block = [u8; BLOCK_BYTES];
 
 // Where the records begin, and where the two bytes of the check stand, which is over the bytes before it.
 pub(crate) const RECORDS_AT: usize = 4;
 
 pub(crate) const CHECK_AT: usize = 510;
 
-pub(crate) const CHECK_LOW_AT: usize = CHECK_AT + 1;
-
-// The blocks that the most cycles of a run take.
-pub(crate) const MOST_BLOCKS: usize = (MOST_CYCLES * WORDS_PER_RECORD + ONE_WORD_LESS)
+// The blocks that the most cycles of a run take: rounded up by hand, since a constant's value calls nothing.
+pub(crate) const MOST_BLOCKS: usize = (MOST_CYCLES * WORDS_PER_RECORD + BLOCK_WORDS - 1)
     / BLOCK_WORDS;
 
 // The most bytes of a trace, and those of one block more.

@@ -14,54 +14,43 @@ ghost use Rattle.trace.specs.Limits.{kept_length};
 ghost use Rattle.trace.specs.Reading.{Reads};
 ghost use Rattle.trace.specs.Writing.{Writes};
 
-use layout::{BLOCK_BYTES, BLOCK_WORDS, MOST_BLOCKS, ONE_WORD_LESS, TOO_LONG, WORDS_PER_RECORD};
+use layout::{BLOCK_BYTES, BLOCK_WORDS, MOST_BLOCKS, TOO_LONG, WORDS_PER_RECORD};
 pub use layout::{CYCLE_WORDS, INPUT_BYTES, TRACE_BYTES};
+use refusals::{Refusal, Refused};
 use run::MOST_CYCLES;
-
-// How much of the lent output is filled; or the number of the refusal and the index of the block, 0 where it is of no block.
-#[derive(Clone, Copy)]
-pub enum Filled {
-    Accepted(usize),
-    Refused(u8, usize),
-}
 
 // The check of some bytes.
 pub fn check(bytes: &[u8]) -> u16
     ensures { result ≡ check_of bytes.now }
 {
-    let mut register: u16 = 0;
-    let mut i: usize = 0;
-    while i < bytes.len() {
-        register = checking::check_byte(register, bytes[i]);
-        i += 1;
+    let mut register = 0;
+    for byte in bytes {
+        register = checking::check_byte(register, *byte);
     }
     register
 }
 
-// Reads a trace into cycle words. Nothing is written before all of it is accepted.
-pub fn read(trace: &[u8], cycles: &mut [u16]) -> Filled
+// Reads a trace into cycle words. Nothing is written before all of it is accepted. The answer is how many words are filled, or the refusal, with
+// the index of the block if it is of one.
+pub fn read(trace: &[u8], cycles: &mut [u16]) -> Result<usize, Refused>
     ensures { Reads trace.now result cycles.old cycles.new }
 {
-    if trace.len() % BLOCK_BYTES != 0 {
-        return Filled::Refused(11, 0);
+    let (blocks, rest) = trace.as_chunks();
+    if !rest.is_empty() {
+        return Err(Refusal::NotWholeBlocks.into());
     }
-    let blocks = trace.len() / BLOCK_BYTES;
-    if MOST_BLOCKS < blocks {
-        return Filled::Refused(2, 0);
+    if MOST_BLOCKS < blocks.len() {
+        return Err(Refusal::TooLong.into());
     }
-    match judging::judge(blocks, trace) {
-        Filled::Refused(number, index) => Filled::Refused(number, index),
-        Filled::Accepted(records) => {
-            if MOST_CYCLES < records {
-                return Filled::Refused(2, 0);
-            }
-            if cycles.len() < WORDS_PER_RECORD * records {
-                return Filled::Refused(3, 0);
-            }
-            copying::copy_all(blocks, records, trace, cycles);
-            Filled::Accepted(WORDS_PER_RECORD * records)
-        }
+    let records = judging::judge(blocks)?;
+    if MOST_CYCLES < records {
+        return Err(Refusal::TooLong.into());
     }
+    if cycles.len() < WORDS_PER_RECORD * records {
+        return Err(Refusal::NoRoom.into());
+    }
+    copying::copy_all(blocks, cycles);
+    Ok(WORDS_PER_RECORD * records)
 }
 
 // How much of a long input is kept, so that its answer is that of all of it.
@@ -75,20 +64,20 @@ pub fn kept(length: usize) -> usize
     }
 }
 
-// Writes cycle words as a trace. Nothing is written before all of it is accepted.
-pub fn write(words: &[u16], trace: &mut [u8]) -> Filled
+// Writes cycle words as a trace. Nothing is written before all of it is accepted. The answer is how many bytes are filled, or the refusal.
+pub fn write(words: &[u16], trace: &mut [u8]) -> Result<usize, Refused>
     ensures { Writes words.now result trace.old trace.new }
 {
     if words.len() % WORDS_PER_RECORD != 0 {
-        return Filled::Refused(1, 0);
+        return Err(Refusal::NotWholeCycles.into());
     }
     if MOST_CYCLES < words.len() / WORDS_PER_RECORD {
-        return Filled::Refused(2, 0);
+        return Err(Refusal::TooLong.into());
     }
-    let blocks = (words.len() + ONE_WORD_LESS) / BLOCK_WORDS;
+    let blocks = words.len().div_ceil(BLOCK_WORDS);
     if trace.len() < blocks * BLOCK_BYTES {
-        return Filled::Refused(3, 0);
+        return Err(Refusal::NoRoom.into());
     }
-    making::write_blocks(blocks, words, trace);
-    Filled::Accepted(blocks * BLOCK_BYTES)
+    making::write_blocks(words, trace);
+    Ok(blocks * BLOCK_BYTES)
 }

@@ -1,22 +1,18 @@
 -- `bench_trace::firanbekwo_read` meets its contract: the number is what the reader's answer says is filled.
--- an answer that is known, and what it tells
-use mathlib.Core.Path.{◌≡◌, sym, ap, ◌∙◌}
+use mathlib.Core.Path.{◌≡◌, refl, ap, ◌∙◌}
 use Prim.Native.Nat.{ℕ}
-use Rattle.choice.specs.Tells.{Placed}
-use Rattle.trace.specs.declared.Filled.{Filled}
+use Rattle.std.specs.Prelude.{Result, Ok, Err}
+use Rattle.std.specs.Result.{result_unwrap_or}
+use Rattle.refusals.specs.declared.Refused.{Refused}
 use Rattle.trace.specs.Answers.{filled_tells}
 use Rattle.bench_trace.specs.Filling.{filled_of}
 use Rattle.bench_trace.proofs.firanbekwo_read.Goals as goal
 
-known-fills : (answer : Placed ℕ) (r known : Filled) → filled_tells r ≡ answer → r ≡ known → filled_of (filled_tells known) ≡ filled_of answer
-known-fills answer r known told e = ap filled_of (sym (ap filled_tells e) ∙ told)
+filled_is : (r : Result ℕ Refused) → result_unwrap_or r 0 ≡ filled_of (filled_tells r)
+filled_is (Ok n) = refl
+filled_is (Err r) = refl
 
-pub returns-in-Accepted : goal.returns-in-Accepted
-returns-in-Accepted c =
+pub returns : goal.returns
+returns c =
     let reads = c.read.ensures in
-    record { filled = known-fills _ _ _ reads.told c.in-Accepted.is; written = reads.written }
-
-pub returns-in-Refused : goal.returns-in-Refused
-returns-in-Refused c =
-    let reads = c.read.ensures in
-    record { filled = known-fills _ _ _ reads.told c.in-Refused.is; written = reads.written }
+    record { filled = c.unwrap_or.ensures ∙ filled_is c.read.result ∙ ap filled_of reads.told; written = reads.written }

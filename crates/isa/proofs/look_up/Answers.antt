@@ -1,9 +1,10 @@
--- `isa::look_up` meets its contract: no row, or the row of the number that was found.
+-- `isa::look_up` meets its contract: no row, or the row of the family that was found.
 use Rattle.isa.proofs.Answers.{look_none, look_row}
+use native.Mathlib.Omega.{arith}
 use Rattle.isa.proofs.look_up.Goals as goal
 
-pub returns-then-number-ge-NONE : goal.returns-then-number-ge-NONE
-returns-then-number-ge-NONE c = rw c.named_as.ensures (look_none c.args.word c.row_number-number.result c.row_number-number.ensures c.if-number-ge-NONE.true)
+pub returns-in-None : goal.returns-in-None
+returns-in-None c = look_none c.args.word (omega arith) c.of-fields.result c.of-fields.ensures c.family.result c.family.ensures c.in-None.is c.named.result c.named.ensures
 
-pub returns : goal.returns
-returns c = rw c.named_as-2.ensures (look_row c.args.word c.row_number-number.result c.row_number-number.ensures c.if-number-ge-NONE.false _ c.row_refusal.ensures c.family_at-family.result c.family_at-family.ensures)
+pub returns-in-Some : goal.returns-in-Some
+returns-in-Some c = look_row c.args.word (omega arith) c.of-fields.result c.of-fields.ensures c.family.result c.family.ensures c.in-Some.family c.in-Some.is c.named-in-Some.result c.named-in-Some.ensures _ c.rule_refusal.ensures

@@ -7,7 +7,8 @@ use Rattle.isa.specs.Table.{row, rows, no_rule, never}
 use borrow.Author.Rules.{rules}
 use Rattle.isa.proofs.numbered_row.Goals as goal
 
-pub returns-else-number-lt-NONE : goal.returns-else-number-lt-NONE
-returns-else-number-lt-NONE c =
+pub returns-in-None : goal.returns-in-None
+returns-in-None c =
+    let k = c.in-None.ensures.lookup in
     let h : length rows ≤ c.args.number = search rules in
     sym (get_or-eq_default rows (row Tor1 0 0 0 0 0 no_rule never) h)

@@ -1,20 +1,24 @@
--- `listing::line_of` meets its contract.
--- src/lib.rt:102:11
-use Rattle.listing.proofs.Prints.{refused_out, short_out, filled_out}
-use Rattle.listing.specs.Keys.{keys_line}
-use Rattle.listing.specs.declared.Keys.{Keys}
-use Rattle.isa.specs.Words.{decoded_tells}
-use lib.Seq.{sets}
-use lib.ListN.{length}
-use native.Mathlib.Omega.{arith}
-use mathlib.Core.Path.{sym, ap, ◌∙◌}
+use Rattle.std.proofs.Common.{ap, ◌∙◌}
+use Rattle.std.proofs.lemmas.Result.{err_from_is_err_and}
+use Rattle.refusals.specs.Numbers.{number_of}
+use Rattle.listing.specs.Items.{joined}
+use Rattle.listing.specs.Answers.{fill}
+use Rattle.listing.proofs.Prints.{line_refused, line_is, line_filled, front}
+use Rattle.listing.proofs.Single.{line_short}
 use Rattle.listing.proofs.line_of.Goals as goal
 
-pub returns-then-out-size : goal.returns-then-out-size
-returns-then-out-size c = short_out c.args.word (omega arith) c.args.out.now c.in-Accepted.named (ap decoded_tells (sym c.in-Accepted.is) ∙ c.decode.ensures) (omega (arith, c.if-out-size.true, c.line_size-size.ensures ∙ ap (λ (k : Keys). length (keys_line k)) c.keys_of-keys.ensures))
+pub returns-in_err-decode : goal.returns-in_err-decode
+returns-in_err-decode c =
+    let p = err_from_is_err_and c.from_residual.result c.from_residual.ensures.1 in
+    rw (p.1, p.2) (line_refused c.args.word (number_of c.in_err-decode.field-0.0) c.in_err-decode.ensures c.args.out.now)
 
-pub returns-in-Refused : goal.returns-in-Refused
-returns-in-Refused c = refused_out c.args.word (omega arith) c.args.out.now c.in-Refused.number (ap decoded_tells (sym c.in-Refused.is) ∙ c.decode.ensures)
+pub join-size-requires : goal.join-size-requires
+join-size-requires c =
+    let n = c.in_ok-decode.field-0 in
+    rw (ap joined c.texts_of-texts.ensures) (line_short c.args.word _ (line_is c.args.word n c.in_ok-decode.ensures))
 
-pub returns-else-out-size : goal.returns-else-out-size
-returns-else-out-size c = filled_out c.args.word (omega arith) c.args.out.now c.in-Accepted.named (ap decoded_tells (sym c.in-Accepted.is) ∙ c.decode.ensures) c.line_size-size.result c.put_line.new.out (c.line_size-size.ensures ∙ ap (λ (k : Keys). length (keys_line k)) c.keys_of-keys.ensures) c.if-out-size.false (c.put_line.ensures ∙ ap (λ (k : Keys). sets c.args.out.now 0 (keys_line k)) c.keys_of-keys.ensures)
+pub returns : goal.returns
+returns c =
+    let n = c.in_ok-decode.field-0 in
+    let line = front _ _ _ _ c.join-size.ensures.size c.join-size.ensures.bytes ∙ ap joined c.texts_of-texts.ensures in
+    c.fill.ensures ∙ ap (λ line. fill line c.args.out.now) line ∙ line_filled c.args.word n c.in_ok-decode.ensures c.args.out.now

@@ -1,9 +1,6 @@
 -- `machine::cycle` meets its contract: a step on the registers' RAM and core.
-use mathlib.Core.Path.{◌∙◌, ap}
-use Rattle.machine.specs.declared.Core.{Core}
-use Rattle.machine.specs.Cycles.{cycle_of}
-use Rattle.machine.specs.Stepping.{machine_from}
+use Rattle.machine.proofs.Steps.{refused_turn}
 use Rattle.machine.proofs.cycle.Goals as goal
 
-pub returns : goal.returns
-returns c = c.turn_of.ensures ∙ c.step-stepped.ensures.turn ∙ ap (λ (k : Core). cycle_of (machine_from c.args.machine.registers.ram k) c.args.words) c.core_of.ensures
+pub returns-in-Err : goal.returns-in-Err
+returns-in-Err c = refused_turn c.args.machine _ c.core_of.ensures c.args.words _ _ _ c.in-Err.is c.step.ensures

@@ -1,23 +1,11 @@
--- `run::put` meets its contract: four words are stored one after another.
-use mathlib.Core.Path.{◌≡◌}
-use Prim.Native.Nat.{suc, ◌+◌, ◌*◌}
+-- `run::put` meets its contract: the part that is copied into is the report's.
+use mathlib.Core.Path.{◌≡◌, refl}
 use native.Mathlib.Omega.{arith}
-use lib.ListN.{length-set}
+use Rattle.std.proofs.lemmas.Slice.{put_mid-paste}
+use Rattle.run.specs.Splitting.{report_words}
 use Rattle.run.proofs.put.Goals as goal
-
-pub bounds-reports-at-2 : goal.bounds-reports-at-2
-bounds-reports-at-2 c = simp length-set (omega arith)
-
-pub bounds-reports-at-3 : goal.bounds-reports-at-3
-bounds-reports-at-3 c = simp length-set (omega arith)
-
-pub bounds-reports-at-4 : goal.bounds-reports-at-4
-bounds-reports-at-4 c = simp length-set (omega arith)
 
 pub returns : goal.returns
 returns c =
-    let at = 4 * c.args.i in
-    let e1 : at + 1 ≡ suc at = omega arith in
-    let e2 : at + 2 ≡ suc (suc at) = omega arith in
-    let e3 : at + 3 ≡ suc (suc (suc at)) = omega arith in
-    rw (e1, e2, e3)
+    let copied : c.copy_from_slice.new.self ≡ report_words c.args.report = rw (c.copy_from_slice.ensures.after, c.into.ensures, c.into-2.ensures) in
+    put_mid-paste _ _ _ _ (report_words c.args.report) 4 copied (omega arith) refl

@@ -1,60 +1,25 @@
 -- `run::run_cycles` meets its contract: `Before` holds before each cycle, and each way out has its law in proofs/Loop.
-use mathlib.Core.Path.{ap, ◌∙◌}
+use mathlib.Core.Path.{refl, ap, ◌∙◌}
 use native.Mathlib.Omega.{arith}
-use Rattle.choice.proofs.Tells.{tells_accepted, tells_refused}
 use Rattle.machine.specs.Cycles.{cycle_of}
-use Rattle.machine.specs.Stepping.{machine_from, report_in}
-use Rattle.run.proofs.Courses.{completions_le}
-use Rattle.run.proofs.Loop.{begins, finishes, stops, refuses, again}
+use Rattle.machine.specs.Stepping.{machine_from}
+use Rattle.run.proofs.Loop.{finishes, stops, refuses, again, cycle_cut}
 use Rattle.run.proofs.run_cycles.Goals as goal
 
-pub loop-i-init : goal.loop-i-init
-loop-i-init c =
-    begins c.args.words.now c.args.budget _ c.args.reports.now _
+pub returns-then-budget-i : goal.returns-then-budget-i
+returns-then-budget-i c = rw c.ended.ensures (stops c.loop-i.invariant c.requires.2 (omega (arith, c.loop-i-test.true, c.as_chunks.ensures.front_len)) c.if-budget-i.true)
 
-pub shape_of-reports-then-left-eq0 : goal.shape_of-reports-then-left-eq0
-shape_of-reports-then-left-eq0 c = c.loop-i.invariant.room
-
-pub returns-then-left-eq0 : goal.returns-then-left-eq0
-returns-then-left-eq0 c =
-    let loop = c.loop-i in
-    rw c.ended.ensures (stops loop.invariant c.requires.2 c.loop-i-test.true c.if-left-eq0.true)
-
-pub cycle_at-requires : goal.cycle_at-requires
-cycle_at-requires c = omega (arith, c.requires, c.loop-i-test.true)
-
-pub shape_of-reports-then-stepped-ne0 : goal.shape_of-reports-then-stepped-ne0
-shape_of-reports-then-stepped-ne0 c = c.loop-i.invariant.room
-
-pub returns-then-stepped-ne0 : goal.returns-then-stepped-ne0
-returns-then-stepped-ne0 c =
-    let loop = c.loop-i in
-    rw c.ended-then-stepped-ne0.ensures
-    (refuses loop.invariant c.requires.2 c.loop-i-test.true c.if-left-eq0.false _
-    (c.step-stepped.ensures.turn ∙ ap (cycle_of (machine_from loop.ram loop.core)) c.cycle_at.ensures) _ (tells_refused _ _ c.if-stepped-ne0.true))
-
-pub put-requires : goal.put-requires
-put-requires c = omega (arith, c.loop-i.invariant.room, c.requires, c.loop-i-test.true)
-
-pub overflow_add-completed : goal.overflow_add-completed
-overflow_add-completed c =
-    let loop = c.loop-i in
-    omega (arith, completions_le (report_in c.step-stepped.result).completed, c.instructions-completed.ensures, loop.invariant.few, c.loop-i-test.true, c.requires)
-
-pub overflow_add-i : goal.overflow_add-i
-overflow_add-i c = omega (arith, c.loop-i-test.true, c.requires)
+pub returns-in-Err : goal.returns-in-Err
+returns-in-Err c =
+    rw (c.ended-in-Err.ensures, c.into.ensures)
+    (refuses c.loop-i.invariant c.requires.2 (omega (arith, c.loop-i-test.true, c.as_chunks.ensures.front_len)) c.if-budget-i.false _
+    (c.in-Err.ensures.turn ∙ ap (cycle_of (machine_from c.loop-i.ram c.loop-i.core)) (cycle_cut c.args.words.now _ c.loop-i.i c.as_chunks.ensures.front (omega (arith, c.loop-i-test.true, c.as_chunks.ensures.front_len)))) _ refl)
 
 pub loop-i-preserved : goal.loop-i-preserved
 loop-i-preserved c =
-    let loop = c.loop-i in
     rw c.instructions-completed.ensures
-    (again loop.invariant c.requires.2 c.loop-i-test.true c.if-left-eq0.false _
-    (c.step-stepped.ensures.turn ∙ ap (cycle_of (machine_from loop.ram loop.core)) c.cycle_at.ensures) (report_in c.step-stepped.result) _ (tells_accepted _ _ c.if-stepped-ne0.false) c.put.ensures)
-
-pub shape_of-reports : goal.shape_of-reports
-shape_of-reports c = c.loop-i.invariant.room
+    (again c.loop-i.invariant c.requires.2 (omega (arith, c.loop-i-test.true, c.as_chunks.ensures.front_len)) c.if-budget-i.false _
+    (c.in-Ok.ensures.turn ∙ ap (cycle_of (machine_from c.loop-i.ram c.loop-i.core)) (cycle_cut c.args.words.now _ c.loop-i.i c.as_chunks.ensures.front (omega (arith, c.loop-i-test.true, c.as_chunks.ensures.front_len)))) c.in-Ok.stepped.report _ refl c.put.ensures)
 
 pub returns : goal.returns
-returns c =
-    let loop = c.loop-i in
-    rw c.ended-2.ensures (finishes loop.invariant c.requires.2 c.loop-i-test.false)
+returns c = rw c.ended-2.ensures (finishes c.loop-i.invariant c.requires.2 _ c.as_chunks.ensures.front_len (omega (arith, c.loop-i-test.false, c.as_chunks.ensures.front_len)))

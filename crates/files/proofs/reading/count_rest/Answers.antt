@@ -14,28 +14,28 @@ loop-init g c =
 
 pub returns-then-read-lt-CHUNK : goal.returns-then-read-lt-CHUNK
 returns-then-read-lt-CHUNK g c =
-    let n = c.fill-read.result.bytes in
-    let chunk = c.fill-read.new.bytes in
+    let n = c.in-Ok.read in
+    let chunk = c.fill.new.bytes in
     let (taken, consumed, kept) = c.loop.invariant.1 in
     let fits : n ≤ length chunk = search rules in
     record {
       short = omega (arith, c.kept-kept-in-loop.ensures, kept_lt 3 (c.loop.kept + n));
-      counted = λ q. all_taken _ _ (taken ++ take n chunk) (λ xs. c.kept-kept-in-loop.result ≡ kept_length words_per_record (c.args.first + length xs))
-          (Consumes-trans _ _ _ _ _ consumed c.fill-read.ensures.read)
-          (c.fill-read.ensures.end q (search rules))
+      counted = all_taken _ _ (taken ++ take n chunk) (λ xs. c.kept-kept-in-loop.result ≡ kept_length words_per_record (c.args.first + length xs))
+          (Consumes-trans _ _ _ _ _ consumed c.in-Ok.ensures.read)
+          (c.in-Ok.ensures.end (search rules))
           (counted_more c.args.first n c.loop.kept c.kept-kept-in-loop.result taken chunk fits kept c.kept-kept-in-loop.ensures);
     }
 
 pub loop-preserved : goal.loop-preserved
 loop-preserved g c =
-    let n = c.fill-read.result.bytes in
-    let chunk = c.fill-read.new.bytes in
+    let n = c.in-Ok.read in
+    let chunk = c.fill.new.bytes in
     let (taken, consumed, kept) = c.loop.invariant.1 in
     let fits : n ≤ length chunk = search rules in (
       omega (arith, c.kept-kept-in-loop.ensures, kept_lt 3 (c.loop.kept + n)),
       (
         taken ++ take n chunk,
-        Consumes-trans _ _ _ _ _ consumed c.fill-read.ensures.read,
+        Consumes-trans _ _ _ _ _ consumed c.in-Ok.ensures.read,
         counted_more c.args.first n c.loop.kept c.kept-kept-in-loop.result taken chunk fits kept c.kept-kept-in-loop.ensures,
       ),
     )

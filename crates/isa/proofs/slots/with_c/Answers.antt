@@ -1,37 +1,43 @@
--- `isa::slots::with_c` meets its contract: each arm is a stretch of slots with one list for C.
-use Rattle.isa.specs.Table.{destinations, y_or_acc, flags, twice_codes}
-use Rattle.isa.specs.Sets.{these}
+-- `isa::slots::with_c` meets its contract: each arm is some slots with one list for C.
+use mathlib.Core.Path.{◌≡◌, refl, ◌∙◌, ap, sym, subst}
+use mathlib.Core.Bool.{Bool}
 use mathlib.Core.List.{[], ◌∷◌}
-use Rattle.isa.proofs.Arms.{every_c, listed_c, shared_c, none_c}
-use native.Mathlib.Omega.{arith}
+use Rattle.choice.specs.Pick.{pick}
+use Rattle.isa.specs.declared.Family.TheVariants.{Sonr, Tonr, Shftnr, Bonr, Rotnr, Prtnr, Svstnr, Setst, Rstst}
+use Rattle.choice.proofs.Decisions.{along}
+use Rattle.isa.specs.Sets.{these}
+use Rattle.isa.specs.Slots.{with_c}
+use Rattle.isa.specs.Table.{number_of, no_row, destinations, y_or_acc, flags, twice_codes}
+use Rattle.isa.specs.Decision.{sharing}
+use Rattle.isa.proofs.Arms.{Lone, lone_c, some_listed, some_row, one_of, one_of_three, address_c, the_rest, zero_listed}
 use Rattle.isa.proofs.slots.with_c.Goals as goal
 
-pub returns-in-17 : goal.returns-in-17
-returns-in-17 c = listed_c 17 1 (y_or_acc) tt c.args.slot c.args.c _ c.is_y_or_acc.result (omega arith) c.is_y_or_acc.ensures c.row_if.ensures
+pub returns-in-Sonr : goal.returns-in-Sonr
+returns-in-Sonr c = lone_c destinations c.args.slot (one_of (Lone destinations) c.args.slot Sonr Tonr (refl, refl) (refl, refl) c.in-Sonr.is) c.args.c _ (some_listed destinations 32 c.args.c _ _ c.args.slot c.is_destination.ensures c.requires c.then_some.ensures)
 
-pub returns-in-18 : goal.returns-in-18
-returns-in-18 c = every_c 18 1 tt c.args.slot c.args.c (omega arith)
+pub returns-in-Shftnr : goal.returns-in-Shftnr
+returns-in-Shftnr c =
+    lone_c y_or_acc c.args.slot (one_of_three (Lone y_or_acc) c.args.slot Shftnr Prtnr Svstnr (refl, refl) (refl, refl) (refl, refl) c.in-Shftnr.is) c.args.c _
+    (some_listed y_or_acc 32 c.args.c _ _ c.args.slot c.is_y_or_acc.ensures c.requires c.then_some-in-Shftnr.ensures)
 
-pub returns-in-25 : goal.returns-in-25
-returns-in-25 c = listed_c 25 1 (twice_codes) tt c.args.slot c.args.c _ c.is_twice_code.result (omega arith) c.is_twice_code.ensures c.row_if-in-25.ensures
+pub returns-in-Bonr : goal.returns-in-Bonr
+returns-in-Bonr c =
+    along 32 (λ k. with_c (sharing (number_of Bonr)) k) c.args.c _ c.bit_or_turn.ensures c.requires
+    ∙ one_of (λ f. with_c (sharing (number_of Bonr)) c.args.c ≡ with_c (sharing (number_of f)) c.args.c) c.args.slot Bonr Rotnr refl refl c.in-Bonr.is
 
-pub returns-in-26 : goal.returns-in-26
-returns-in-26 c = listed_c 26 1 (these (0 ∷ [])) tt c.args.slot c.args.c _ c.is_zero.result (omega arith) c.is_zero.ensures c.row_if-in-26.ensures
+pub returns-in-Setst : goal.returns-in-Setst
+returns-in-Setst c = lone_c flags c.args.slot (one_of (Lone flags) c.args.slot Setst Rstst (refl, refl) (refl, refl) c.in-Setst.is) c.args.c _ (some_listed flags 32 c.args.c _ _ c.args.slot c.is_flag.ensures c.requires c.then_some-in-Setst.ensures)
 
-pub returns-in-0-to-14 : goal.returns-in-0-to-14
-returns-in-0-to-14 c = every_c 0 15 tt c.args.slot c.args.c (omega arith)
+pub returns-in-Test : goal.returns-in-Test
+returns-in-Test c = lone_c twice_codes c.args.slot (subst (Lone twice_codes) (sym c.in-Test.is) (refl, refl)) c.args.c _ (some_listed twice_codes 32 c.args.c _ _ c.args.slot c.is_twice_code.ensures c.requires c.then_some-in-Test.ensures)
 
-pub returns-in-15-to-16 : goal.returns-in-15-to-16
-returns-in-15-to-16 c = listed_c 15 2 (destinations) tt c.args.slot c.args.c _ c.is_destination.result (omega arith) c.is_destination.ensures c.row_if-in-15-to-16.ensures
-
-pub returns-in-19-to-20 : goal.returns-in-19-to-20
-returns-in-19-to-20 c = shared_c 19 2 19 tt c.args.slot c.args.c _ (omega arith) c.bit_or_turn.ensures
-
-pub returns-in-21-to-22 : goal.returns-in-21-to-22
-returns-in-21-to-22 c = listed_c 21 2 (y_or_acc) tt c.args.slot c.args.c _ c.is_y_or_acc-in-21-to-22.result (omega arith) c.is_y_or_acc-in-21-to-22.ensures c.row_if-in-21-to-22.ensures
-
-pub returns-in-23-to-24 : goal.returns-in-23-to-24
-returns-in-23-to-24 c = listed_c 23 2 (flags) tt c.args.slot c.args.c _ c.is_flag.result (omega arith) c.is_flag.ensures c.row_if-in-23-to-24.ensures
+pub returns-in-Noop : goal.returns-in-Noop
+returns-in-Noop c =
+    let zero = these (0 ∷ []) in
+    lone_c zero c.args.slot (subst (Lone zero) (sym c.in-Noop.is) (refl, refl)) c.args.c _
+    (some_row _ _ c.args.slot c.then_some-in-Noop.ensures ∙ ap (λ (b : Bool). pick b (number_of c.args.slot) no_row) (zero_listed c.args.c c.requires))
 
 pub returns-in_default : goal.returns-in_default
-returns-in_default c = none_c c.args.slot c.args.c (omega arith)
+returns-in_default c =
+    let n = c.in_default in
+    address_c c.args.slot (the_rest c.args.slot n.not-Sonr n.not-Tonr n.not-Shftnr n.not-Bonr n.not-Rotnr n.not-Prtnr n.not-Svstnr n.not-Setst n.not-Rstst n.not-Test n.not-Noop) c.args.c c.requires

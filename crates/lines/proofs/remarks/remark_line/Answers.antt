@@ -1,14 +1,9 @@
--- `lines::remarks::remark_line` meets its contract: two texts, handed over.
--- src/remarks.rt:132:39
-use native.Mathlib.Omega.{arith}
-use lib.ListN.{length-take}
+-- `lines::remarks::remark_line` meets its contract: the name, and what is said.
+use Rattle.std.proofs.Common.{append_assoc}
 use Rattle.lines.specs.Remarks.{remark_line}
-use Rattle.lines.proofs.Putting.{puts_both, line_made}
+use Rattle.lines.proofs.Answered.{makes_as}
 use Rattle.lines.proofs.remarks.remark_line.Goals as goal
-
-pub slice_bounds-hand_over-end : goal.slice_bounds-hand_over-end
-slice_bounds-hand_over-end c = simp length-take (omega arith)
 
 pub returns : goal.returns
 unfolding remark_line
-returns c = line_made (puts_both c.put_name-at.ensures.0 c.put_remark-at.ensures.0) c.hand_over.ensures
+returns c = makes_as (rw (c.put_remark.ensures, c.put_name.ensures.text, c.new-line.ensures) (simp append_assoc)) c.hand_over.ensures

@@ -1,13 +1,9 @@
--- `lines::words::fault_line` meets its contract: six texts one after another.
-use native.Mathlib.Omega.{arith}
-use lib.ListN.{length-take}
+-- `lines::words::fault_line` meets its contract: six texts.
+use Rattle.std.proofs.Common.{append_assoc}
 use Rattle.lines.specs.Words.{fault_line}
-use Rattle.lines.proofs.Putting.{puts_both, line_made}
+use Rattle.lines.proofs.Answered.{makes_as}
 use Rattle.lines.proofs.words.fault_line.Goals as goal
-
-pub slice_bounds-hand_over-end : goal.slice_bounds-hand_over-end
-slice_bounds-hand_over-end c = simp length-take (omega arith)
 
 pub returns : goal.returns
 unfolding fault_line
-returns c = line_made (puts_both c.put_text-at.ensures (puts_both c.put_decimal-at.ensures.0 (puts_both c.put_text-at-2.ensures (puts_both c.put_decimal-at-2.ensures.0 (puts_both c.put_text-at-3.ensures c.put_expected-at.ensures.0))))) c.hand_over.ensures
+returns c = makes_as (rw (c.put_expected.ensures, c.put-3.ensures.text, c.put_decimal-2.ensures.text, c.put-2.ensures.text, c.put_decimal.ensures.text, c.put.ensures.text, c.new-line.ensures) (simp append_assoc)) c.hand_over.ensures

@@ -1,21 +1,22 @@
--- `listpages::answering::read_lines` meets its contract.
--- src/answering.rt:84:9
-use Rattle.listpages.proofs.Outs.{piece_bound, piece_fits, piece_reads}
-use lib.ListN.{length-take}
-use native.Mathlib.Omega.{arith}
+-- `listpages::answering::read_lines` meets its contract: the answers to what is taken of the bytes.
+use Rattle.std.proofs.Common.{◌≡◌, ◌≤◌, ◌∙◌, ap, ℕ, List, length, take, rules, arith}
+use Rattle.std.proofs.Math.Nat.{min-le_left}
+use Rattle.std.proofs.lemmas.List.{take_min, length-take}
+use Rattle.lines.proofs.Answered.{makes_as}
+use Rattle.listpages.specs.Answering.{lines_of, reading_after}
+use Rattle.listpages.proofs.Longest.{answers_fit}
 use Rattle.listpages.proofs.answering.read_lines.Goals as goal
 
-pub slice_bounds-join_answers-end : goal.slice_bounds-join_answers-end
-slice_bounds-join_answers-end c = simp length-take (omega (arith, (piece_bound c.args.reading c.args.bytes.now c.piece_end-end.result c.piece_end-end.ensures).0))
-
-pub join_answers-joined-requires : goal.join_answers-joined-requires
-join_answers-joined-requires c = omega (arith, piece_fits c.args.reading c.args.bytes.now c.piece_end-end.result c.piece_end-end.ensures)
-
-pub slice_bounds-text-end : goal.slice_bounds-text-end
-slice_bounds-text-end c = omega (arith, c.join_answers-joined.ensures.put.end, piece_fits c.args.reading c.args.bytes.now c.piece_end-end.result c.piece_end-end.ensures)
-
-pub slice_bounds-hand_over-end : goal.slice_bounds-hand_over-end
-slice_bounds-hand_over-end c = simp length-take (omega (arith, c.join_answers-joined.ensures.put.end, piece_fits c.args.reading c.args.bytes.now c.piece_end-end.result c.piece_end-end.ensures))
+pub add_answers-next-requires : goal.add_answers-next-requires
+add_answers-next-requires c =
+    let piece = take c.min.result c.args.bytes.now in
+    let few : length piece ≤ 4096 = simp length-take (omega (arith, c.min.ensures, min-le_left 4096 (length c.args.bytes.now), min-le_left c.min.result (length c.args.bytes.now))) in
+    (search rules, rw c.new-text.ensures (omega (arith, answers_fit c.args.reading piece few)))
 
 pub returns : goal.returns
-returns c = piece_reads c.args.reading c.args.bytes.now c.piece_end-end.result c.piece_end-end.ensures c.join_answers-joined.result _ _ c.join_answers-joined.ensures c.hand_over.result _ _ c.hand_over.ensures
+returns c =
+    let same : take c.min.result c.args.bytes.now ≡ take 4096 c.args.bytes.now = ap (λ (n : ℕ). take n c.args.bytes.now) c.min.ensures ∙ take_min 4096 c.args.bytes.now in
+    record {
+      reading = c.add_answers-next.ensures.reading ∙ ap (λ (l : List ℕ). reading_after c.args.reading (lines_of l)) same;
+      written = makes_as (rw (c.add_answers-next.ensures.text, c.new-text.ensures, same)) c.hand_over.ensures;
+    }

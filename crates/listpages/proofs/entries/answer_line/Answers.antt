@@ -1,12 +1,13 @@
--- `listpages::entries::answer_line` meets its contract.
--- src/entries.rt:91:11
-use Rattle.listpages.proofs.Outs.{answered_word, answered_refusal}
-use Rattle.lines.specs.Lines.{last_line}
+-- `listpages::entries::answer_line` meets its contract: the word, or the refusal's line.
+use Rattle.std.proofs.Common.{sym, ap, ◌∙◌, ℕ, Result}
+use Rattle.refusals.specs.declared.Refused.{Refused}
+use Rattle.listing.specs.Answers.{read_tells}
+use Rattle.lines.specs.Lines.{refused_line, last_line}
+use Rattle.lines.proofs.Answered.{makes_as}
+use Rattle.listpages.specs.Entries.{answer_by}
 use Rattle.listpages.proofs.entries.answer_line.Goals as goal
 
-pub returns-in-Word : goal.returns-in-Word
-returns-in-Word c = answered_word c.args.waits c.args.line.now c.read_line.result c.read_line.ensures c.hex_line.result _ _ c.in-Word.word c.in-Word.is c.hex_line.ensures c.waits_after.result c.waits_after.ensures
-
-pub returns-in-Refused : goal.returns-in-Refused
+pub returns-in-Err : goal.returns-in-Err
 unfolding last_line
-returns-in-Refused c = answered_refusal c.args.waits c.args.line.now c.read_line.result c.read_line.ensures c.last_line.result _ _ c.in-Refused.number c.in-Refused.column c.in-Refused.is c.last_line.ensures
+returns-in-Err c =
+    makes_as (ap (λ (k : ℕ). refused_line k c.in-Err.refused.index) c.from.ensures ∙ ap (λ (r : Result ℕ Refused). answer_by (read_tells r)) (sym c.in-Err.is)) c.last_line.ensures

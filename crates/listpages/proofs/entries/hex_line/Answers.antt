@@ -1,8 +1,7 @@
--- `listpages::entries::hex_line` meets its contract.
--- src/entries.rt:31:30
-use Rattle.listpages.proofs.Entered.{hex_filled}
+-- `listpages::entries::hex_line` meets its contract: the digits, and the line's end.
+use Rattle.std.proofs.Common.{refl}
 use Rattle.lines.proofs.Answered.{makes_as}
-use mathlib.Core.Path.{refl}
+use Rattle.listpages.proofs.Entered.{hex_filled}
 use Rattle.listpages.proofs.entries.hex_line.Goals as goal
 
 pub returns : goal.returns

@@ -1,25 +1,25 @@
--- `listpages::entries::instruction_line` meets its contract.
--- src/entries.rt:41:34
-use Rattle.listpages.proofs.Entered.{filled_short, filled_long, filled_line, refused_line_lem}
-use Rattle.listing.specs.Answers.{printed_tells, outcome}
-use Rattle.listing.specs.declared.Printed.{Printed}
+-- `listpages::entries::instruction_line` meets its contract: by what printing the word leaves.
+use Rattle.std.proofs.Common.{refl, ap, ◌∙◌, arith}
+use Rattle.std.proofs.lemmas.List.{length-take, length-set}
+use Rattle.lines.specs.Lines.{word_refused_line}
 use Rattle.lines.proofs.Answered.{makes_as}
-use lib.ListN.{length-take, length-set}
-use native.Mathlib.Omega.{arith}
-use mathlib.Core.Path.{refl, sym, ap, ◌∙◌}
+use Rattle.listpages.proofs.Entered.{filled_short, filled_long, filled_line, refused_line_lem}
 use Rattle.listpages.proofs.entries.instruction_line.Goals as goal
 
-pub returns-then-n-gt-LINE_BYTES : goal.returns-then-n-gt-LINE_BYTES
-returns-then-n-gt-LINE_BYTES c = absurd (omega (arith, c.if-n-gt-LINE_BYTES.true, filled_short c.args.word _ _ refl c.in-Filled.n (ap (λ (p : Printed). outcome (printed_tells p) c.line_of.new.out) (sym c.in-Filled.is) ∙ c.line_of.ensures)))
+pub bounds-line-n : goal.bounds-line-n
+bounds-line-n c = omega (arith, filled_short c.args.word _ _ refl c.in-Ok.n (c.in-Ok.ensures {u = tt}))
+
+pub overflow_add-line : goal.overflow_add-line
+overflow_add-line c = omega (arith, filled_short c.args.word _ _ refl c.in-Ok.n (c.in-Ok.ensures {u = tt}))
 
 pub slice_bounds-line-end : goal.slice_bounds-line-end
-slice_bounds-line-end c = simp length-set (omega (arith, c.if-n-gt-LINE_BYTES.false, filled_long c.args.word _ _ refl c.in-Filled.n (ap (λ (p : Printed). outcome (printed_tells p) c.line_of.new.out) (sym c.in-Filled.is) ∙ c.line_of.ensures)))
+slice_bounds-line-end c = simp length-set (omega (arith, filled_long c.args.word _ _ refl c.in-Ok.n (c.in-Ok.ensures {u = tt}), filled_short c.args.word _ _ refl c.in-Ok.n (c.in-Ok.ensures {u = tt})))
 
 pub slice_bounds-hand_over-end : goal.slice_bounds-hand_over-end
-slice_bounds-hand_over-end c = simp (length-take, length-set) (omega (arith, c.if-n-gt-LINE_BYTES.false, filled_long c.args.word _ _ refl c.in-Filled.n (ap (λ (p : Printed). outcome (printed_tells p) c.line_of.new.out) (sym c.in-Filled.is) ∙ c.line_of.ensures)))
+slice_bounds-hand_over-end c = simp (length-take, length-set) (omega (arith, filled_long c.args.word _ _ refl c.in-Ok.n (c.in-Ok.ensures {u = tt}), filled_short c.args.word _ _ refl c.in-Ok.n (c.in-Ok.ensures {u = tt})))
 
-pub returns-in-Refused : goal.returns-in-Refused
-returns-in-Refused c = makes_as (refused_line_lem c.args.word _ _ refl c.in-Refused.number (ap (λ (p : Printed). outcome (printed_tells p) c.line_of.new.out) (sym c.in-Refused.is) ∙ c.line_of.ensures)) c.word_refused_line.ensures
+pub returns-in-Ok : goal.returns-in-Ok
+returns-in-Ok c = makes_as (filled_line c.args.word _ _ refl c.in-Ok.n (c.in-Ok.ensures {u = tt})) c.hand_over.ensures
 
-pub returns-else-n-gt-LINE_BYTES : goal.returns-else-n-gt-LINE_BYTES
-returns-else-n-gt-LINE_BYTES c = makes_as (filled_line c.args.word _ _ refl c.in-Filled.n (ap (λ (p : Printed). outcome (printed_tells p) c.line_of.new.out) (sym c.in-Filled.is) ∙ c.line_of.ensures)) c.hand_over.ensures
+pub returns-in-Err : goal.returns-in-Err
+returns-in-Err c = makes_as (ap word_refused_line c.from.ensures ∙ refused_line_lem c.args.word _ _ refl _ (c.in-Err.ensures {u = tt})) c.word_refused_line.ensures

@@ -3,4 +3,4 @@ use Rattle.machine.proofs.Seen.{source_at}
 use Rattle.machine.proofs.acting.performed.Goals as goal
 
 pub returns : goal.returns
-returns c = rw (c.outcome_for.ensures, c.place-first.ensures.0, c.place-second.ensures.0, c.place-mask.ensures.0, c.sources-all.ensures, source_at c.args.plan.work.operands.first c.args.view, source_at c.args.plan.work.operands.second c.args.view, source_at c.args.plan.work.operands.mask c.args.view)
+returns c = rw (c.outcome_for.ensures, c.place.ensures.0, c.place-2.ensures.0, c.place-3.ensures.0, c.sources-all.ensures, source_at c.args.plan.work.operands.first c.args.view, source_at c.args.plan.work.operands.second c.args.view, source_at c.args.plan.work.operands.mask c.args.view)

@@ -5,4 +5,4 @@ use Rattle.machine.proofs.stepping.performs.Goals as goal
 pub returns : goal.returns
 returns c =
     rw (c.t.ensures, c.ct.ensures, c.on_y-2.ensures, c.on_y.ensures, c.settled_core-after.ensures, c.settle_ram.ensures, c.acted-effect.ensures, c.seen-view.ensures)
-    (performed_right c.args.named c.args.plan c.args.ram.now c.args.core c.args.immediate c.args.levels)
+    (performed_right c.args.verdict c.args.ram.now c.args.core c.args.levels)

@@ -1,17 +1,18 @@
 -- `pages::packing::end_text` meets its contract: by whether a line is bad.
-use native.Mathlib.Omega.{arith}
-use lib.ListN.{length-take}
 use Rattle.pages.proofs.Outs.{faulty_ends, sound_ends}
 use Rattle.pages.proofs.packing.end_text.Goals as goal
-
-pub slice_bounds-hand_over-end : goal.slice_bounds-hand_over-end
-slice_bounds-hand_over-end c = simp length-take (omega (arith, c.take_piece-named.ensures.few, c.say_unnamed-at.ensures.1))
-
-pub returns-then-next-ne0 : goal.returns-then-next-ne0
-returns-then-next-ne0 c = record { kept = c.take_piece-named.ensures.kept; written = faulty_ends c.args.reader _ c.args.words.now _ c.args.out.now _ _ _ _ _ _ _ _ c.take_piece-named.ensures.reader c.take_piece-named.ensures.kept c.take_piece-named.ensures.named c.say_unnamed-at.ensures.0 c.if-next-ne0.true c.hand_over.ensures }
-
-pub slice_bounds-hand_over-end-2 : goal.slice_bounds-hand_over-end-2
-slice_bounds-hand_over-end-2 c = simp length-take (omega (arith, c.take_piece-named.ensures.few, c.say_unnamed-at.ensures.1, c.write_blocks-blocks.ensures.few))
+use Rattle.pages.proofs.packing.end_text.Goals.{then-sound, else-sound}
 
 pub returns : goal.returns
-returns c = record { kept = c.take_piece-named.ensures.kept; written = sound_ends c.args.reader _ c.args.words.now _ c.args.out.now _ _ _ _ _ _ _ _ c.take_piece-named.ensures.reader c.take_piece-named.ensures.kept c.take_piece-named.ensures.named c.say_unnamed-at.ensures.0 c.if-next-ne0.false _ _ _ c.write_blocks-blocks.ensures c.hand_over-2.ensures }
+returns c = record {
+  kept = c.add_piece-next.ensures.kept;
+  written =
+      elim c.if-sound.branch [
+        | then-sound w ↦
+            rw (w.bytes-is, w.out-is)
+            (sound_ends c.args.reader c.add_piece-next.result c.args.words.now c.add_piece-next.new.words c.args.out.now _ _ c.if-sound.text _ c.add_piece-next.ensures.reader c.add_piece-next.ensures.kept w.if-sound.true _ c.add_unnamed.new.self _ (rw (c.add_unnamed.ensures.text, c.add_piece-next.ensures.named, c.new-text.ensures)) (rw (w.text-is) w.write_blocks-bytes.ensures) c.hand_over.ensures)
+        | else-sound w ↦
+            rw (w.bytes-is, w.out-is)
+            (faulty_ends c.args.reader c.add_piece-next.result c.args.words.now c.add_piece-next.new.words c.args.out.now _ _ c.if-sound.text _ c.add_piece-next.ensures.reader c.add_piece-next.ensures.kept w.if-sound.false (rw (w.text-is, c.add_unnamed.ensures.text, c.add_piece-next.ensures.named, c.new-text.ensures)) c.hand_over.ensures)
+      ];
+}

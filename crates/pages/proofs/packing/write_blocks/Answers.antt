@@ -1,17 +1,24 @@
 -- `pages::packing::write_blocks` meets its contract: by the writer's answer.
-use native.Mathlib.Omega.{arith}
-use Rattle.pages.proofs.Answers.{found_long}
-use Rattle.pages.proofs.Outs.{refusal_room, refused_packs, accepted_packs}
+use Rattle.std.proofs.Common.{◌≡◌, ◌∙◌, ap, ◌++◌, subst, ℕ, take, refl, Result}
+use Rattle.std.proofs.lemmas.List.{take_min}
+use Rattle.refusals.specs.declared.Refused.{Refused}
+use Rattle.trace.specs.Writing.{Writes}
+use Rattle.lines.specs.declared.Program.TheVariants.{PackTrace}
+use Rattle.lines.specs.declared.Remark.{Remark}
+use Rattle.lines.specs.Remarks.{remark_line}
+use Rattle.pages.proofs.Outs.{refused_packs, accepted_packs}
 use Rattle.pages.proofs.packing.write_blocks.Goals as goal
 
-pub slice_bounds-write-end : goal.slice_bounds-write-end
-slice_bounds-write-end c = found_long _ c.args.reader.found _ c.found_in-found.ensures
+pub returns-in-Err : goal.returns-in-Err
+returns-in-Err g c =
+    let words = c.args.words.now in
+    let n = c.min-found.result in
+    let found : take n words ≡ take c.args.reader.found words = ap (λ (k : ℕ). take k words) c.min-found.ensures ∙ take_min c.args.reader.found words in
+    rw (← found) (refused_packs _ _ _ _ _ _ (subst (λ (x : Result ℕ Refused). Writes (take n words) x c.args.out.now c.write.new.trace) c.in-Err.is c.write.ensures) (c.add_remark.ensures.text ∙ ap (λ (r : Remark). c.args.said.now ++ remark_line PackTrace r) c.remark_of.ensures))
 
-pub overflow_add-result : goal.overflow_add-result
-overflow_add-result c = omega (arith, c.bytes_in.ensures, refusal_room _ _ _ c.args.said.now _ c.args.at c.say_refused-line.ensures c.requires)
-
-pub returns-in-Refused : goal.returns-in-Refused
-returns-in-Refused c = rw c.bytes_in.ensures (refused_packs _ c.args.reader.found c.args.words.now c.args.out.now _ c.args.said.now c.args.at c.found_in-found.ensures c.requires _ _ _ c.in-Refused.is _ _ c.write.ensures c.say_refused-line.ensures)
-
-pub returns-in-Accepted : goal.returns-in-Accepted
-returns-in-Accepted c = accepted_packs _ c.args.reader.found c.args.words.now c.args.out.now _ c.args.said.now c.args.at c.found_in-found.ensures c.requires _ _ c.in-Accepted.is c.write.ensures
+pub returns-in-Ok : goal.returns-in-Ok
+returns-in-Ok g c =
+    let words = c.args.words.now in
+    let n = c.min-found.result in
+    let found : take n words ≡ take c.args.reader.found words = ap (λ (k : ℕ). take k words) c.min-found.ensures ∙ take_min c.args.reader.found words in
+    rw (← found) (accepted_packs _ _ _ _ _ _ (subst (λ (x : Result ℕ Refused). Writes (take n words) x c.args.out.now c.write.new.trace) c.in-Ok.is c.write.ensures) refl)

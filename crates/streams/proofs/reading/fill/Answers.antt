@@ -17,11 +17,10 @@ start_of_put a k n xs ys p q =
 pub loop-done-preserved : goal.loop-done-preserved
 loop-done-preserved g c =
     let before = c.loop-done.bytes in
-    let after = c.read_once-read.new.bytes in
-    let fits : c.read_once-read.result.bytes ≤ length after = search rules in
-    let joined = start_of_put c.loop-done.done (length before - c.loop-done.done) c.read_once-read.result.bytes before after c.loop-done.invariant.within fits in
+    let after = c.read_once.new.bytes in
+    let joined = start_of_put c.loop-done.done (length before - c.loop-done.done) c.in-Ok.count before after c.loop-done.invariant.within c.in-Ok.ensures.bound.0 in
     record {
       same = search rules;
       within = search rules;
-      taken = subst (Consumes _ _) (sym joined) (Consumes-trans _ _ _ _ _ c.loop-done.invariant.taken c.read_once-read.ensures.read);
+      taken = subst (Consumes _ _) (sym joined) (Consumes-trans _ _ _ _ _ c.loop-done.invariant.taken c.in-Ok.ensures.read.0);
     }

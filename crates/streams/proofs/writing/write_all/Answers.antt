@@ -11,10 +11,8 @@ further : (d n : ℕ) (xs : List ℕ) → take d xs ++ take n (take (length xs -
 further d n xs = ap (λ l. take d xs ++ take n l) (take_rest xs d) ∙ sym (take-add d n xs)
 
 pub loop-done-preserved : goal.loop-done-preserved
-loop-done-preserved g c =
-    let done = c.loop-done.done in
-    let put = c.write_once-put.result in
-    record {
-      within = search rules;
-      written = subst (Appends _ _) (further done put c.args.bytes.now) (Appends-trans _ _ _ _ _ c.loop-done.invariant.written c.write_once-put.ensures.written);
-    }
+loop-done-preserved g c = record {
+  within = search rules;
+  written = subst (Appends _ _) (further c.loop-done.done c.in-Ok.count c.args.bytes.now)
+      (Appends-trans _ _ _ _ _ c.loop-done.invariant.written c.in-Ok.ensures.written);
+}

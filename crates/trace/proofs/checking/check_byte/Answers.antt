@@ -5,4 +5,4 @@ use Rattle.trace.proofs.Passes.{pass_is}
 use Rattle.trace.proofs.checking.check_byte.Goals as goal
 
 pub returns : goal.returns
-returns c = sym (pass_is c.args.register c.args.byte (search rules) (search rules))
+returns c = rw c.from.ensures (sym (pass_is c.args.register c.args.byte (search rules) (search rules)))

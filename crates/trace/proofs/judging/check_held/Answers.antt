@@ -5,4 +5,4 @@ use Rattle.trace.proofs.judging.check_held.Goals as goal
 
 pub returns : goal.returns
 unfolding check_held
-returns c = omega arith
+returns c = omega (arith, c.from_be_bytes.ensures)

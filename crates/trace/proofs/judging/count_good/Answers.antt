@@ -3,14 +3,14 @@ use borrow.Author.Tests.{eq-eqb, ne_eqb, lt-leb, le-leb}
 use Rattle.trace.specs.Blocks.{count_good}
 use Rattle.trace.proofs.judging.count_good.Goals as goal
 
-pub returns-then-left-ne0 : goal.returns-then-left-ne0
+pub returns-then-count-ge1 : goal.returns-then-count-ge1
 unfolding count_good
-returns-then-left-ne0 c = rw (ne_eqb _ _ c.if-left-ne0.true)
+returns-then-count-ge1 c = rw (eq-eqb _ _ c.if-left-eq0.true, le-leb _ _ c.if-count-ge1.true)
 
-pub returns-then-count-lt1 : goal.returns-then-count-lt1
+pub returns-else-count-ge1 : goal.returns-else-count-ge1
 unfolding count_good
-returns-then-count-lt1 c = rw (eq-eqb _ _ c.if-left-ne0.false, lt-leb _ _ c.if-count-lt1.true)
+returns-else-count-ge1 c = rw (eq-eqb _ _ c.if-left-eq0.true, lt-leb _ _ c.if-count-ge1.false)
 
-pub returns : goal.returns
+pub returns-else-left-eq0 : goal.returns-else-left-eq0
 unfolding count_good
-returns c = rw (eq-eqb _ _ c.if-left-ne0.false, le-leb _ _ c.if-count-lt1.false)
+returns-else-left-eq0 c = rw (ne_eqb _ _ c.if-left-eq0.false)

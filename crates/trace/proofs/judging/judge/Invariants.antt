@@ -1,11 +1,8 @@
 -- `trace::judging::judge` meets its contract: the judgement of the blocks still to come, with the records so far, is that of all.
 use mathlib.Core.Path.{◌≡◌}
-use Prim.Native.Nat.{◌-◌, ◌*◌, ◌≤◌}
+use Prim.Native.Nat.{◌*◌, ◌≤◌}
 use Rattle.trace.proofs.Judged.{judged_from}
 use Rattle.trace.proofs.judging.judge.Given as goal
 
 abbrev pub invariant-loop-k : goal.invariant-loop-k
-invariant-loop-k l = (l.k ≤ l.blocks) × (l.records ≤ 255 * l.k) × (judged_from 3 l.blocks l.trace l.k l.records ≡ judged_from 3 l.blocks l.trace 0 0)
-
-abbrev pub decreases-loop-k : goal.decreases-loop-k
-decreases-loop-k l = l.blocks - l.k
+invariant-loop-k l = (l.records ≤ 255 * l.k) × (judged_from 3 l.blocks l.k l.records ≡ judged_from 3 l.blocks 0 0)

@@ -1,15 +1,11 @@
 -- `trace::making::write_block` meets its contract: the body, and then its check.
-use mathlib.Core.Path.{◌≡◌, ap, ◌∙◌}
-use native.Mathlib.Omega.{arith}
-use lib.ListN.{length}
-use Rattle.trace.specs.Blocks.{body_of, sealed}
-use Rattle.trace.proofs.Made.{body_long, sealed_is}
+use Rattle.std.proofs.Common.{◌≡◌, ◌/◌, ◌%◌, arith}
+use Rattle.trace.specs.Blocks.{sealed}
 use Rattle.trace.proofs.making.write_block.Goals as goal
 
 pub returns : goal.returns
+unfolding sealed
 returns c =
-    let body = c.put_body.new.body in
-    let made : body ≡ body_of 3 c.args.k c.args.words.now = c.put_body.ensures in
-    let long : length body ≡ 510 = ap length made ∙ body_long 3 c.args.k c.args.words.now (omega arith) in
-    sealed_is c.args.block.now body c.put_check.new.pair c.check-sum.result (omega arith) long c.check-sum.ensures c.put_check.ensures
-    ∙ ap sealed made
+    let sum = c.check.result in
+    let high : sum / 256 % 256 ≡ sum / 256 = omega arith in
+    rw (c.copy_from_slice.ensures.after, c.to_be_bytes.ensures, high, c.check.ensures, c.put_body.ensures)

@@ -1,9 +1,0 @@
-use native.Mathlib.Omega.{arith}
-use borrow.Author.Tests.{eq-eqb, ne_eqb}
-use Rattle.alu.proofs.shifts.gated.Goals as goal
-
-pub returns-then-f-eq0 : goal.returns-then-f-eq0
-returns-then-f-eq0 c = (rw (eq-eqb _ _ c.if-f-eq0.true), omega arith)
-
-pub returns-else-f-eq0 : goal.returns-else-f-eq0
-returns-else-f-eq0 c = (rw (ne_eqb _ _ c.if-f-eq0.false), omega arith)

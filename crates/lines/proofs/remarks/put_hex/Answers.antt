@@ -1,8 +1,0 @@
--- `lines::remarks::put_hex` meets its contract: two texts.
--- src/remarks.rt:43:9
-use native.Mathlib.Omega.{arith}
-use Rattle.lines.proofs.Putting.{puts_both}
-use Rattle.lines.proofs.remarks.put_hex.Goals as goal
-
-pub returns : goal.returns
-returns c = (puts_both c.put_text-after.ensures c.put_word.ensures.0, omega (arith, c.put_text-after.ensures.end, c.put_word.ensures.1))
