@@ -8,9 +8,9 @@ ghost use Rattle.std.specs.Prelude.{◌<◌};
 use files::Files;
 use lines::Program;
 use std::fs::File;
+use std::io;
 use std::io::{Error, ErrorKind, Read, Write};
 use std::rt::{Env, Files as FileSystem};
-use std::{io, str};
 use streams::{argument, has_argument, open};
 
 // The most bytes of an argument, and the most arguments: more are passed over.
@@ -38,15 +38,15 @@ impl Write for Unopened {
     }
 }
 
-// An argument, or no text where there is none.
-fn text_of<'a>(env: &impl Env, place: usize, bytes: &'a mut [u8]) -> &'a str {
+// An argument, or nothing where there is none.
+fn text_of<'a>(env: &impl Env, place: usize, bytes: &'a mut [u8]) -> &'a [u8] {
     let n = argument(env, place, bytes).unwrap_or(0);
-    str::from_utf8(&bytes[..n]).unwrap_or("")
+    &bytes[..n]
 }
 
-// Runs a program over an input and two outputs.
+// Runs a program over an input and two outputs. The third letter of its name tells which.
 fn run_program<R: Read + Drop, W: Write + Drop, E: Write + Drop>(
-    name: &str,
+    name: &[u8],
     input: R,
     output: W,
     errors: E,
@@ -57,10 +57,10 @@ fn run_program<R: Read + Drop, W: Write + Drop, E: Write + Drop>(
         errors,
     };
     match name {
-        "runtrace" => printing::run_trace(&mut files),
-        "packtrace" => printing::pack_text(&mut files),
-        "listtrace" => listprinting::list_trace(&mut files),
-        "readlist" => listprinting::read_list(&mut files),
+        [_, _, b'n', ..] => printing::run_trace(&mut files),
+        [_, _, b'c', ..] => printing::pack_text(&mut files),
+        [_, _, b's', ..] => listprinting::list_trace(&mut files),
+        [_, _, b'a', ..] => listprinting::read_list(&mut files),
         _ => printing::unpack_trace(&mut files),
     }
 }
@@ -75,12 +75,18 @@ fn run_case<R: Env + FileSystem<File = File> + Print>(rt: &R, first: usize) -> i
     let program = text_of(rt, first, &mut program);
     let way = text_of(rt, first + 1, &mut way);
     let name = text_of(rt, first + 2, &mut name);
-    println!(rt; "== {program} {way} {name}")?;
+    rt.write_all(b"== ")?;
+    rt.write_all(program)?;
+    rt.write_all(b" ")?;
+    rt.write_all(way)?;
+    rt.write_all(b" ")?;
+    rt.write_all(name)?;
+    rt.write_all(b"\n")?;
     let errors = io::writer(rt);
-    match (open(rt, name.as_bytes()), way) {
-        (Some(file), "blocked") => run_program(program, &file, &file, errors),
+    match (open(rt, name), way) {
+        (Some(file), [b'b', ..]) => run_program(program, &file, &file, errors),
         (Some(file), _) => run_program(program, &file, io::writer(rt), errors),
-        (None, "blocked") => run_program(program, Unopened, Unopened, errors),
+        (None, [b'b', ..]) => run_program(program, Unopened, Unopened, errors),
         (None, _) => run_program(program, Unopened, io::writer(rt), errors),
     }
     Ok(())

@@ -3,7 +3,7 @@
 // run or unpacked, by the calls that the programs make.
 #![tactic(auto)]
 
-ghost use Rattle.std.specs.Prelude.{◌<◌, ◌≤◌, length, IfSome};
+ghost use Rattle.std.specs.Prelude.{◌<◌, ◌≤◌, length};
 
 use pages::{PACKED_WORDS, Written};
 use std::io;
@@ -100,7 +100,7 @@ fn after_all<'a>(expected: &'a [u8], kind: &[u8], text: &[u8]) -> Option<&'a [u8
     }
     let trace = blocks.get(..written.output?)?;
     match kind {
-        b"words" => after_made(
+        [b'w', ..] => after_made(
             expected,
             |bytes, text, said| pages::unpack_trace(bytes, text, said),
             trace,
@@ -113,14 +113,16 @@ fn after_all<'a>(expected: &'a [u8], kind: &[u8], text: &[u8]) -> Option<&'a [u8
     }
 }
 
-// Reads the file that an argument names, and answers how long it is.
-fn read_file(rt: &(impl Env + Files), place: usize, bytes: &mut [u8]) -> Option<usize>
-    ensures { IfSome result (λ n. n ≤ length bytes.new) }
+// Reads the file that an argument names, as far as it can be read, and answers how long that is.
+fn read_file(rt: &(impl Env + Files), place: usize, bytes: &mut [u8]) -> usize
+    ensures { result ≤ length bytes.new }
 {
     let mut name = [0; NAME_BYTES];
-    let n = argument(rt, place, &mut name)?;
-    let mut file = open(rt, &name[..n])?;
-    fill(&mut file, bytes).ok()
+    let n = argument(rt, place, &mut name).unwrap_or(0);
+    match open(rt, &name[..n]) {
+        Some(mut file) => fill(&mut file, bytes).unwrap_or_else(|failed| failed.bytes),
+        None => 0,
+    }
 }
 
 // Whether what comes of the text is all of what is expected, and that is something.
@@ -130,9 +132,9 @@ fn holds(rt: &(impl Env + Files), first: usize) -> Option<bool>
     let mut kind = [0; NAME_BYTES];
     let mut text = [0; FILE_BYTES];
     let mut expected = [0; FILE_BYTES];
-    let n = argument(rt, first, &mut kind)?;
-    let length = read_file(rt, first + 1, &mut text)?;
-    let end = read_file(rt, first + 2, &mut expected)?;
+    let n = argument(rt, first, &mut kind).unwrap_or(0);
+    let length = read_file(rt, first + 1, &mut text);
+    let end = read_file(rt, first + 2, &mut expected);
     let rest = after_all(&expected[..end], &kind[..n], &text[..length])?;
     Some(end > 0 && rest.is_empty())
 }
