@@ -13,7 +13,8 @@ use lines::{Program, Remark};
 use run::MOST_CYCLES;
 use text::{Fault, Reader, WORDS_PER_LINE};
 
-// The words of one cycle more than a trace may have: what comes after them would be refused alike.
+// The words of one cycle more than a trace may have: what comes after them would be refused alike. They are lent beside a reader that counts those
+// found, as the public calls have it.
 pub const PACKED_WORDS: usize = WORDS_PER_LINE * (MOST_CYCLES + 1);
 
 // How many bad lines are named, and the room that they take.
