@@ -1,7 +1,7 @@
 // The machine that the cases of cycle_cases and run_cases begin with, and what they print of one; for tests.
 #![tactic(auto)]
 
-ghost use Rattle.std.specs.Prelude.{◌≡◌, ◌+◌, ◌%◌, ◌≤◌, length, take, drop};
+ghost use Rattle.std.specs.Prelude.{◌≡◌, ◌%◌};
 ghost use Rattle.streams.specs.Digits.{hex_from};
 ghost use Rattle.cases.specs.Start.{waits_for};
 
@@ -16,12 +16,11 @@ pub const RAM: [u16; 32] = [
     0x80C3, 0x90C3, 0xA0C3, 0xB0C3, 0xC0C3, 0xD0C3, 0xE0C3, 0xF0C3,
 ];
 
-// The word whose four hexadecimal digits start at a place of a text.
-pub fn word_at(text: &[u8], at: usize) -> u16
-    requires { at + 4 ≤ length text.now }
-    ensures { result ≡ hex_from 0 (take 4 (drop at text.now)) % 65536 }
+// The word of hexadecimal digits, the last four of them.
+pub fn word(digits: &[u8]) -> u16
+    ensures { result ≡ hex_from 0 digits.now % 65536 }
 {
-    (hex(&text[at..at + 4]) % 65536) as u16
+    (hex(digits) % 65536) as u16
 }
 
 // The machine that a case begins with: its waiting word (0 for none), ACC, D and the status.

@@ -2,7 +2,7 @@
 // the waiting word (0000 for none), ACC, D and the status at the start, then the lines, the Y input and the pins.
 #![tactic(auto)]
 
-use cases::{RAM, print_changed, print_core, word_at};
+use cases::{RAM, print_changed, print_core, word};
 use machine::{Registers, Report, Words};
 use std::io;
 use streams::fill;
@@ -38,15 +38,15 @@ fn print_registers(rt: &impl Print, registers: Registers) -> io::Result<()> {
 // Prints the case of a line.
 fn print_case(rt: &impl Print, line: &[u8; LINE]) -> io::Result<()> {
     let machine = cases::start(
-        word_at(line, 0),
-        word_at(line, 5),
-        word_at(line, 10),
-        word_at(line, 15),
+        word(&line[..4]),
+        word(&line[5..9]),
+        word(&line[10..14]),
+        word(&line[15..19]),
     );
     let words = Words {
-        lines: word_at(line, 20),
-        input: word_at(line, 25),
-        pins: word_at(line, 30),
+        lines: word(&line[20..24]),
+        input: word(&line[25..29]),
+        pins: word(&line[30..34]),
     };
     let turn = machine::cycle(machine, words);
     rt.write_all(&line[..LINE - 1])?;

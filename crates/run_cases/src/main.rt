@@ -2,7 +2,7 @@
 // A case is a header line (waiting word, ACC, D, status, budget, room, how many words, how many lines) and its pattern lines, in hex.
 #![tactic(auto)]
 
-use cases::{print_changed, print_core, word_at};
+use cases::{print_changed, print_core, word};
 use machine::Machine;
 use run::{Ending, Ran};
 use std::io;
@@ -34,21 +34,21 @@ struct Case<'a> {
 // The case that a text begins with, and the rest of the text.
 fn first_case(text: &[u8]) -> Option<(Case<'_>, &[u8])> {
     let (header, rest) = text.split_at_checked(HEADER)?;
-    let lines = usize::from(word_at(header, 47));
+    let lines = usize::from(word(&header[47..51]));
     if lines == 0 {
         return None;
     }
     let (patterns, rest) = rest.split_at_checked(PATTERN * lines)?;
     let case = Case {
         start: cases::start(
-            word_at(header, 0),
-            word_at(header, 5),
-            word_at(header, 10),
-            word_at(header, 15),
+            word(&header[..4]),
+            word(&header[5..9]),
+            word(&header[10..14]),
+            word(&header[15..19]),
         ),
         budget: hex(&header[20..36]),
-        room: usize::from(word_at(header, 37)),
-        count: usize::from(word_at(header, 42)),
+        room: usize::from(word(&header[37..41])),
+        count: usize::from(word(&header[42..46])),
         patterns,
     };
     Some((case, rest))
@@ -56,9 +56,9 @@ fn first_case(text: &[u8]) -> Option<(Case<'_>, &[u8])> {
 
 // The words of the pattern lines, over and over until all places are filled.
 fn repeat(patterns: &[u8], words: &mut [u16]) {
-    for (word, column) in words.iter_mut().zip(patterns.chunks(COLUMN).cycle()) {
+    for (place, column) in words.iter_mut().zip(patterns.chunks(COLUMN).cycle()) {
         if column.len() == COLUMN {
-            *word = word_at(column, 0);
+            *place = word(&column[..4]);
         }
     }
 }

@@ -1,5 +1,5 @@
 -- Numbers that stand in a text as digits.
-use Rattle.std.specs.Prelude.{◌≡◌, ℕ, ◌+◌, ◌-◌, ◌*◌, ◌%◌, ◌^◌, ◌≤◌, List, [], ◌∷◌, leb, EachIndex, slice_index, IfSome, Option}
+use Rattle.std.specs.Prelude.{ℕ, ◌+◌, ◌-◌, ◌*◌, ◌%◌, ◌^◌, List, [], ◌∷◌, leb, Option, Some, None}
 use Rattle.choice.specs.Pick.{pick}
 
 -- what a capital hexadecimal digit is worth ("0" is 48, "A" 65); any other byte is 0
@@ -11,6 +11,7 @@ abbrev pub hex_from : ℕ → List ℕ → ℕ
 hex_from n [] = n
 hex_from n (d ∷ ds) = hex_from ((n * 16 % 2 ^ 64 + digit_value d) % 2 ^ 64) ds
 
--- there is a number only of decimal digits
-abbrev pub IsDecimal : List ℕ → Option ℕ → Type 0
-IsDecimal digits r = IfSome r (λ n. EachIndex digits (λ k. (48 ≤ slice_index digits k) × (slice_index digits k ≤ 57)))
+-- a number below 2^64 with more decimal digits after it, modulo 2^64; none where another byte stands among them
+abbrev pub decimal_from : ℕ → List ℕ → Option ℕ
+decimal_from n [] = Some n
+decimal_from n (d ∷ ds) = pick (leb 48 d) (pick (leb d 57) (decimal_from ((n * 10 % 2 ^ 64 + (d - 48)) % 2 ^ 64) ds) None) None

@@ -1,8 +1,6 @@
 // Numbers that stand in a text as digits.
 ghost use Rattle.std.specs.Prelude.{◌≡◌, ◌<◌};
-ghost use Rattle.streams.specs.Digits.{digit_value, hex_from, IsDecimal};
-
-use std::str;
+ghost use Rattle.streams.specs.Digits.{digit_value, hex_from, decimal_from};
 
 // What a capital hexadecimal digit is worth; any other byte is 0.
 fn digit_value(byte: u8) -> u8
@@ -28,12 +26,16 @@ pub fn hex(digits: &[u8]) -> u64
     number
 }
 
-// The number of decimal digits, if they are that and nothing else.
+// The number of decimal digits, below 2^64, if they are that and nothing else.
 pub fn decimal(digits: &[u8]) -> Option<usize>
-    ensures { IsDecimal digits.now result }
+    ensures { result ≡ decimal_from 0 digits.now }
 {
-    if !digits.iter().all(|digit| matches!(digit, b'0'..=b'9')) {
-        return None;
+    let mut number: usize = 0;
+    for digit in digits {
+        if *digit < b'0' || b'9' < *digit {
+            return None;
+        }
+        number = number.wrapping_mul(10).wrapping_add((*digit - b'0').into());
     }
-    str::from_utf8(digits).ok()?.parse().ok()
+    Some(number)
 }
