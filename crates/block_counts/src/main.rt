@@ -12,7 +12,7 @@ use printing::{Unit, print_answer};
 use std::fmt::{Display, Formatter};
 use std::io::Read;
 use std::{fmt, io};
-use streams::{decimal, fill};
+use streams::{Regardless, decimal, fill};
 
 // The bytes of a header line, the line feed too.
 const HEADER: usize = 23;
@@ -107,18 +107,17 @@ fn run_case(rt: &impl Print, number: usize, case: Case, input: &[u8]) -> io::Res
 }
 
 // Prints the number of cases at the end, or "bad input" where what comes next is no case.
-fn print_cases(rt: &HostRuntime) -> io::Result<()> {
-    let mut from = rt.stdin();
+fn print_cases<R: Read>(rt: &impl Print, input: &mut R) -> io::Result<()> {
     for cases in 0..MOST {
         let mut header = [0; HEADER];
-        if fill(&mut from, &mut header).unwrap_or_else(|failed| failed.bytes) == 0 {
+        if fill(input, &mut header).unwrap_or_else(|failed| failed.bytes) == 0 {
             return println!(rt; "cases {cases}");
         }
         let Some(case) = case_of(&header) else {
             break;
         };
         let mut zeros = [0; MOST];
-        if from.read_exact(&mut zeros[..case.payload]).is_err() {
+        if input.read_exact(&mut zeros[..case.payload]).is_err() {
             break;
         }
         run_case(rt, cases + 1, case, &zeros[..case.length])?;
@@ -126,7 +125,7 @@ fn print_cases(rt: &HostRuntime) -> io::Result<()> {
     println!(rt; "bad input")
 }
 
-// Where something cannot be printed there is nobody to tell.
+// Where something cannot be printed there is nobody to tell, and what follows is printed all the same.
 fn main(rt: HostRuntime) {
-    let _ = print_cases(&rt);
+    let _ = print_cases(&Regardless { to: &rt }, &mut rt.stdin());
 }

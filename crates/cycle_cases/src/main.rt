@@ -5,7 +5,8 @@
 use cases::{RAM, print_changed, print_core, word};
 use machine::{Registers, Report, Words};
 use std::io;
-use streams::fill;
+use std::io::Read;
+use streams::{Regardless, fill};
 
 // The bytes of a line, its line feed too.
 const LINE: usize = 35;
@@ -61,9 +62,9 @@ fn print_case(rt: &impl Print, line: &[u8; LINE]) -> io::Result<()> {
     println!(rt)
 }
 
-fn print_cases(rt: &HostRuntime) -> io::Result<()> {
+fn print_cases<R: Read>(rt: &impl Print, input: &mut R) -> io::Result<()> {
     let mut text = [0; 8192];
-    let length = fill(&mut rt.stdin(), &mut text).unwrap_or_else(|failed| failed.bytes);
+    let length = fill(input, &mut text).unwrap_or_else(|failed| failed.bytes);
     let (lines, _) = text[..length].as_chunks::<LINE>();
     for line in lines {
         print_case(rt, line)?;
@@ -71,7 +72,7 @@ fn print_cases(rt: &HostRuntime) -> io::Result<()> {
     Ok(())
 }
 
-// Where something cannot be printed there is nobody to tell.
+// Where something cannot be printed there is nobody to tell, and what follows is printed all the same.
 fn main(rt: HostRuntime) {
-    let _ = print_cases(&rt);
+    let _ = print_cases(&Regardless { to: &rt }, &mut rt.stdin());
 }

@@ -14,7 +14,7 @@ use lib.Dec.{eqb, ltb}
 use lib.ListN.{length}
 use borrow.Author.Tests.{eqb-true, eqb-false, ne_eqb, ltb-true, ltb-false}
 use Rattle.choice.specs.Checks.{check, refusal}
-use Rattle.choice.specs.Tells.{Tells, accepted, refused, tells, Placed, accepted_whole, refused_at}
+use Rattle.choice.specs.Tells.{Tells, accepted, refused, tells, Placed, refused_at}
 use Rattle.choice.proofs.Tells.{refused_one, refused_at_one, accepted_refused, tells_refused, told_number}
 use Rattle.choice.proofs.Picks.{unpicked}
 use Rattle.isa.specs.declared.Named.{Named}
@@ -23,19 +23,19 @@ use Rattle.refusals.specs.declared.Refusal.{Refusal}
 use Rattle.refusals.specs.declared.Refused.{Refused}
 use Rattle.refusals.specs.Numbers.{number_of as refusal_number}
 use Rattle.isa.specs.Words.{named_by, word_checks, decode_of, decoded_tells, named_checks, word_for, encode_of, encoded_tells}
-use Rattle.isa.proofs.Laws.{decode_unique, encode_unique}
 use Rattle.machine.specs.declared.Machine.{Machine}
 use Rattle.machine.specs.declared.Words.{Words}
 use Rattle.machine.specs.declared.Core.{Core}
 use Rattle.machine.specs.declared.Turn.{Turn}
 use Rattle.machine.specs.declared.Stepped.{Stepped}
+use Rattle.machine.specs.declared.RefusedStep.{RefusedStep}
 use Rattle.machine.specs.declared.Report.{Report}
 use Rattle.machine.specs.Judging.{Judgement, Refuse, checks_of, accepted_as, judgement_of, may_start}
 use Rattle.machine.specs.Settling.{latched}
-use Rattle.machine.specs.Stepping.{machine_from, step_tells}
+use Rattle.machine.specs.Stepping.{machine_from, core_of, step_tells}
 use Rattle.machine.specs.Cycles.{Turned, answer_tells, refused_turn, turn_of, cycle_of}
 use Rattle.machine.proofs.Exactly.{cycle_number, started_range}
-use Rattle.machine.proofs.Laws.{refused_unchanged, refused_numbered, cycle_unique}
+use Rattle.machine.proofs.Laws.{refused_unchanged, refused_numbered}
 use Rattle.run.specs.declared.Ending.{Ending}
 use Rattle.run.specs.declared.Ending.TheVariants.{Done, Stopped}
 use Rattle.run.specs.declared.Ran.{Ran}
@@ -44,7 +44,7 @@ use Rattle.run.specs.Runs.{most_cycles, ending_tells}
 use Rattle.run.proofs.Starting.{may_begin}
 use Rattle.run.specs.Following.{machine_at, turn_at, Ends, CycleRefused}
 use Rattle.run.proofs.Laws.{may_go_on}
-use Rattle.demands.specs.Calls.{Filling, RefusedWith, RefusedAt, number_in, Decodes, Encodes, RunInput, whole_number, Runs, Cycles, ReadsTrace, WritesTrace, StepsMachine}
+use Rattle.demands.specs.Calls.{Filling, RefusedWith, RefusedAt, number_in, core_in, Decodes, Encodes, RunInput, whole_number, Runs, Cycles, ReadsTrace, WritesTrace, StepsMachine}
 use Rattle.trace.specs.Layout.{words_per_record}
 use Rattle.trace.specs.Answers.{filled_tells, leaves, Fills}
 use Rattle.trace.specs.Writing.{write_checks}
@@ -230,31 +230,32 @@ one_cycle_refused_exactly m c t p k nonzero = (to, back)
     back : refusal (checks_of m.registers.waiting c) ≡ k → RefusedWith t.answer k
     back e = (cycle_told t.answer k).1 (ap (λ (x : Turned). x.answer) (p ∙ refused_by m c k nonzero e))
 
--- one step: its number is the one that its checks give, and a refused step leaves RAM and the other registers
-step_number : (core : Core) (ram : List ℕ) (r : Result Stepped Refusal) → (step_tells core ram r).answer.number ≡ number_in r
-step_number core ram (Ok s) = refl
-step_number core ram (Err e) = refl
+-- one step: its number is the one that its checks give, and a refused step leaves RAM and gives the core back as it was
+step_number : (ram : List ℕ) (r : Result Stepped RefusedStep) → (step_tells ram r).answer.number ≡ number_in r
+step_number ram (Ok s) = refl
+step_number ram (Err e) = refl
 
-step_told : (core : Core) (ram : List ℕ) (r : Result Stepped Refusal) → (number_in r ≡ 0 → ⊥) → (step_tells core ram r).answer ≡ refused (number_in r)
-step_told core ram (Ok s) n = absurd (n refl)
-step_told core ram (Err e) n = refl
+step_told : (ram : List ℕ) (r : Result Stepped RefusedStep) → (number_in r ≡ 0 → ⊥) → (step_tells ram r).answer ≡ refused (number_in r)
+step_told ram (Ok s) n = absurd (n refl)
+step_told ram (Err e) n = refl
 
-module _ (ram : List ℕ) (core : Core) (c : Words) (o : Filling (Result Stepped Refusal)) (p : StepsMachine (ram, core, c) o) where
+step_left : (after : List ℕ) (r : Result Stepped RefusedStep) → (step_tells after r).machine ≡ machine_from after (core_in r)
+step_left after (Ok s) = refl
+step_left after (Err e) = refl
+
+module _ (ram : List ℕ) (core : Core) (c : Words) (o : Filling (Result Stepped RefusedStep)) (p : StepsMachine (ram, core, c) o) where
   pub step_refused_exactly : number_in o.answer ≡ refusal (checks_of core.waiting c)
   step_refused_exactly =
-      sym (step_number core o.after o.answer) ∙ ap (λ (x : Turned). x.answer.number) p.turn ∙ cycle_number (machine_from ram core) c
+      sym (step_number o.after o.answer) ∙ ap (λ (x : Turned). x.answer.number) p.turn ∙ cycle_number (machine_from ram core) c
 
-  pub step_refused_leaves : (number_in o.answer ≡ 0 → ⊥) → (o.after ≡ ram) × ((step_tells core o.after o.answer).machine ≡ machine_from ram core)
+  pub step_refused_leaves : (number_in o.answer ≡ 0 → ⊥) → (o.after ≡ ram) × (core_in o.answer ≡ core)
   step_refused_leaves n =
       let told : (cycle_of (machine_from ram core) c).answer ≡ refused (number_in o.answer) =
-      sym (ap (λ (x : Turned). x.answer) p.turn) ∙ step_told core o.after o.answer n in
-      let same : (step_tells core o.after o.answer).machine ≡ machine_from ram core =
-      ap (λ (x : Turned). x.machine) p.turn ∙ refused_unchanged (machine_from ram core) c (number_in o.answer) told in
-      (step_ram o.after o.answer same, same)
-    where
-      step_ram : (after : List ℕ) (r : Result Stepped Refusal) → (step_tells core after r).machine ≡ machine_from ram core → after ≡ ram
-      step_ram after (Ok s) e = ap (λ (m : Machine). m.registers.ram) e
-      step_ram after (Err k) e = ap (λ (m : Machine). m.registers.ram) e
+      sym (ap (λ (x : Turned). x.answer) p.turn) ∙ step_told o.after o.answer n in
+      let same : machine_from o.after (core_in o.answer) ≡ machine_from ram core =
+      sym (step_left o.after o.answer)
+      ∙ ap (λ (x : Turned). x.machine) p.turn ∙ refused_unchanged (machine_from ram core) c (number_in o.answer) told in
+      (ap (λ (m : Machine). m.registers.ram) same, ap (λ (m : Machine). core_of m.registers) same)
 
 -- words and named instructions: 7, 8 or 9 exactly when decoding or encoding has that number
 pub decode_refused_exactly : (w : ℕ) (r : Result Named Refusal) → Decodes w r → (k : ℕ) → (k ≡ 0 → ⊥) → RefusedWith r k ↔ ((decode_of w).number ≡ k)

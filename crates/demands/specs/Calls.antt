@@ -31,6 +31,7 @@ use Rattle.machine.specs.declared.Words.{Words}
 use Rattle.machine.specs.declared.Core.{Core}
 use Rattle.machine.specs.declared.Turn.{Turn}
 use Rattle.machine.specs.declared.Stepped.{Stepped}
+use Rattle.machine.specs.declared.RefusedStep.{RefusedStep}
 use Rattle.machine.specs.Judging.{may_start}
 use Rattle.machine.specs.Cycles.{turn_tells, cycle_of}
 use Rattle.machine.specs.Stepping.{core_of, machine_from, Steps}
@@ -81,10 +82,14 @@ abbrev pub RefusedAt : {A : Type 0} → Result A Refused → ℕ → ℕ → Typ
 RefusedAt (Ok x) k i = ⊥
 RefusedAt (Err e) k i = (refusal_number e.refusal ≡ k) × (e.index ≡ i)
 
--- for laws: the number of an answer's refusal, 0 where it has none
-abbrev pub number_in : {A : Type 0} → Result A Refusal → ℕ
-number_in (Ok x) = 0
-number_in (Err e) = refusal_number e
+-- for laws: the number of a step's refusal, 0 where it has none, and the core that the step gives back
+abbrev pub number_in : Result Stepped RefusedStep → ℕ
+number_in (Ok s) = 0
+number_in (Err e) = refusal_number e.refusal
+
+abbrev pub core_in : Result Stepped RefusedStep → Core
+core_in (Ok s) = s.core
+core_in (Err e) = e.core
 
 -- text
 abbrev pub Starts : Unit {0} → Reader → Type 0
@@ -138,7 +143,7 @@ abbrev pub Cycles : Machine × Words → Turn → Type 0
 Cycles i r = turn_tells r ≡ cycle_of i.0 i.1
 
 -- RAM before the step, the other registers and the words; RAM after it is the lent output
-abbrev pub StepsMachine : List ℕ × Core × Words → Filling (Result Stepped Refusal) → Type 0
+abbrev pub StepsMachine : List ℕ × Core × Words → Filling (Result Stepped RefusedStep) → Type 0
 StepsMachine i o = Steps i.0 i.1 i.2 o.answer o.after
 
 abbrev pub TakesApart : Registers → Core → Type 0

@@ -11,7 +11,7 @@ use std::fs::File;
 use std::io;
 use std::io::{Error, ErrorKind, Read, Write};
 use std::rt::{Env, Files as FileSystem};
-use streams::{argument, has_argument, open};
+use streams::{Regardless, argument, has_argument, open};
 
 // The most bytes of an argument, and the most arguments: more are passed over.
 const NAME_BYTES: usize = 64;
@@ -66,7 +66,11 @@ fn run_program<R: Read + Drop, W: Write + Drop, E: Write + Drop>(
 }
 
 // Runs a case. Where its output is blocked, that is the input's own file, which is open for reading alone.
-fn run_case<R: Env + FileSystem<File = File> + Print>(rt: &R, first: usize) -> io::Result<()>
+fn run_case<R: Env + FileSystem<File = File> + Print>(
+    to: &impl Print,
+    rt: &R,
+    first: usize,
+) -> io::Result<()>
     requires { first < 1000 }
 {
     let mut program = [0; NAME_BYTES];
@@ -75,13 +79,13 @@ fn run_case<R: Env + FileSystem<File = File> + Print>(rt: &R, first: usize) -> i
     let program = text_of(rt, first, &mut program);
     let way = text_of(rt, first + 1, &mut way);
     let name = text_of(rt, first + 2, &mut name);
-    rt.write_all(b"== ")?;
-    rt.write_all(program)?;
-    rt.write_all(b" ")?;
-    rt.write_all(way)?;
-    rt.write_all(b" ")?;
-    rt.write_all(name)?;
-    rt.write_all(b"\n")?;
+    to.write_all(b"== ")?;
+    to.write_all(program)?;
+    to.write_all(b" ")?;
+    to.write_all(way)?;
+    to.write_all(b" ")?;
+    to.write_all(name)?;
+    to.write_all(b"\n")?;
     let errors = io::writer(rt);
     match (open(rt, name), way) {
         (Some(file), [b'b', ..]) => run_program(program, &file, &file, errors),
@@ -92,9 +96,9 @@ fn run_case<R: Env + FileSystem<File = File> + Print>(rt: &R, first: usize) -> i
     Ok(())
 }
 
-fn print_edges(rt: &HostRuntime) -> io::Result<()> {
+fn print_edges(to: &impl Print, rt: &HostRuntime) -> io::Result<()> {
     let mut output = rt.stdout();
-    println!(rt; "== usage")?;
+    println!(to; "== usage")?;
     for program in [
         Program::RunTrace,
         Program::PackTrace,
@@ -108,12 +112,12 @@ fn print_edges(rt: &HostRuntime) -> io::Result<()> {
         if !has_argument(rt, first + 2) {
             break;
         }
-        run_case(rt, first)?;
+        run_case(to, rt, first)?;
     }
     Ok(())
 }
 
-// Where something cannot be printed there is nobody to tell.
+// Where something cannot be printed there is nobody to tell, and what follows is printed all the same.
 fn main(rt: HostRuntime) {
-    let _ = print_edges(&rt);
+    let _ = print_edges(&Regardless { to: &rt }, &rt);
 }

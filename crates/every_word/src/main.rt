@@ -5,6 +5,7 @@
 use isa::Named;
 use refusals::Refusal;
 use std::io;
+use streams::Regardless;
 
 // The families, in the order of document 01's list and of their enum.
 const FAMILIES: [&str; 27] = [
@@ -70,7 +71,7 @@ fn print_tally(rt: &impl Print, tally: &Tally) -> io::Result<()> {
     println!(rt; "back {}", tally.back)
 }
 
-fn print_words(rt: &HostRuntime) -> io::Result<()> {
+fn print_words(rt: &impl Print) -> io::Result<()> {
     let mut tally = Tally {
         accepted: 0,
         refused: [0; 3],
@@ -84,7 +85,7 @@ fn print_words(rt: &HostRuntime) -> io::Result<()> {
     print_tally(rt, &tally)
 }
 
-// Where something cannot be printed there is nobody to tell.
+// Where something cannot be printed there is nobody to tell, and what follows is printed all the same.
 fn main(rt: HostRuntime) {
-    let _ = print_words(&rt);
+    let _ = print_words(&Regardless { to: &rt });
 }

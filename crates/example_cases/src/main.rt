@@ -8,7 +8,7 @@ ghost use Rattle.std.specs.Prelude.{◌<◌, ◌≤◌, length};
 use pages::{PACKED_WORDS, Written};
 use std::io;
 use std::rt::{Env, Files};
-use streams::{argument, fill, has_argument, open};
+use streams::{Regardless, argument, fill, has_argument, open};
 use text::Reader;
 
 // The bytes of a file's name, and the most arguments.
@@ -84,7 +84,7 @@ fn after_lines<'a>(
 }
 
 // What is expected after what a text comes to: its faults, or what its trace gives.
-fn after_all<'a>(expected: &'a [u8], kind: &[u8], text: &[u8]) -> Option<&'a [u8]> {
+fn after_all<'a>(expected: &'a [u8], kind: u8, text: &[u8]) -> Option<&'a [u8]> {
     let mut words = [0; PACKED_WORDS];
     let mut blocks = [0; trace::TRACE_BYTES];
     let mut said = [0; pages::SAID_BYTES];
@@ -100,7 +100,7 @@ fn after_all<'a>(expected: &'a [u8], kind: &[u8], text: &[u8]) -> Option<&'a [u8
     }
     let trace = blocks.get(..written.output?)?;
     match kind {
-        [b'w', ..] => after_made(
+        b'w' => after_made(
             expected,
             |bytes, text, said| pages::unpack_trace(bytes, text, said),
             trace,
@@ -125,44 +125,45 @@ fn read_file(rt: &(impl Env + Files), place: usize, bytes: &mut [u8]) -> usize
     }
 }
 
-// Whether what comes of the text is all of what is expected, and that is something.
+// Whether what comes of the text is all of what is expected, and that is something. The kind is the first byte of its argument, which is there
+// also where the rest has no room.
 fn holds(rt: &(impl Env + Files), first: usize) -> Option<bool>
     requires { first < 1000 }
 {
-    let mut kind = [0; NAME_BYTES];
+    let mut kind = [0; 1];
     let mut text = [0; FILE_BYTES];
     let mut expected = [0; FILE_BYTES];
-    let n = argument(rt, first, &mut kind).unwrap_or(0);
+    let _ = argument(rt, first, &mut kind);
     let length = read_file(rt, first + 1, &mut text);
     let end = read_file(rt, first + 2, &mut expected);
-    let rest = after_all(&expected[..end], &kind[..n], &text[..length])?;
+    let rest = after_all(&expected[..end], kind[0], &text[..length])?;
     Some(end > 0 && rest.is_empty())
 }
 
 // Prints the name of the text, and whether it holds.
-fn print_case(rt: &(impl Env + Files + Print), first: usize) -> io::Result<()>
+fn print_case(to: &impl Print, rt: &(impl Env + Files), first: usize) -> io::Result<()>
     requires { first < 1000 }
 {
     let mut name = [0; NAME_BYTES];
     let n = argument(rt, first + 1, &mut name).unwrap_or(0);
-    rt.write_all(&name[..n])?;
+    to.write_all(&name[..n])?;
     match holds(rt, first) {
-        Some(true) => println!(rt; " as expected"),
-        _ => println!(rt; " NOT as expected"),
+        Some(true) => println!(to; " as expected"),
+        _ => println!(to; " NOT as expected"),
     }
 }
 
-fn print_examples(rt: &HostRuntime) -> io::Result<()> {
+fn print_examples(to: &impl Print, rt: &(impl Env + Files)) -> io::Result<()> {
     for first in (1..MOST_ARGUMENTS).step_by(3) {
         if !has_argument(rt, first + 2) {
             break;
         }
-        print_case(rt, first)?;
+        print_case(to, rt, first)?;
     }
     Ok(())
 }
 
-// Where something cannot be printed there is nobody to tell.
+// Where something cannot be printed there is nobody to tell, and what follows is printed all the same.
 fn main(rt: HostRuntime) {
-    let _ = print_examples(&rt);
+    let _ = print_examples(&Regardless { to: &rt }, &rt);
 }

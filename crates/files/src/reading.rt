@@ -21,15 +21,20 @@ fn count_rest<R: Read>(input: &mut R, first: usize) -> Result<usize, ReadFailed>
     // more chunks than there is time for
     for _ in 0..u64::MAX {
         let mut chunk = [0u8; CHUNK];
-        let Ok(read) = fill(input, &mut chunk) else {
-            break;
-        };
-        kept = trace::kept(kept + read);
-        if read < CHUNK {
-            return Ok(kept);
+        match fill(input, &mut chunk) {
+            Ok(read) => {
+                kept = trace::kept(kept + read);
+                if read < CHUNK {
+                    return Ok(kept);
+                }
+            }
+            // what was read before the failure is counted too
+            Err(failed) => {
+                let bytes = trace::kept(kept + failed.bytes);
+                return Err(ReadFailed { bytes });
+            }
         }
     }
-    // how much was kept, which is at most what was read
     Err(ReadFailed { bytes: kept })
 }
 

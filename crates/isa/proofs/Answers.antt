@@ -26,8 +26,8 @@ use Rattle.isa.specs.Fields.{mark_of, quadrant_of, field_a, field_b, field_c, mo
 use Rattle.isa.specs.Table.{row, rows, row_at, no_row, number_of, no_rule, never, numbered, refusal_of}
 use Rattle.isa.specs.Slots.{takes, row_of}
 use Rattle.isa.specs.Words.{rule_checks, acc_twice, bit_too_high, named_row, encode_of, word_number, word_row, word_checks, named_by, decode_of, lookup_of, names_i, asks_i, takes_immediate}
-use Rattle.isa.specs.Decision.{row_number, FieldsOf, RowIs, named_by_fields, RowTaking}
-use Rattle.isa.proofs.Families.{own_row, own_number, narrow, mark_small, mark_back}
+use Rattle.isa.specs.Decision.{row_number, FieldsOf, RowIs, named_by_fields, rule_only, RowTaking}
+use Rattle.isa.proofs.Families.{own_row, own_number, narrow, mark_small}
 use Rattle.isa.proofs.Takes.{small}
 use Rattle.isa.proofs.Found.{five, Takes, taking_some, taking_none, taking_own, none_own}
 
@@ -39,11 +39,12 @@ module _ (w : ℕ) (bound : w < 0x10000) (p : Fields) (h : FieldsOf p w) where
   named_same : (f : Family) → named_by_fields f p ≡ of_word f
   named_same f = rw (h.mark, h.a, h.b, h.c)
 
-  -- what the rule of an instruction with these fields refuses it with, by the number of its row
-  rule_same : (i : ℕ) (f : Family) → number_of f ≡ i
-      → refusal (rule_checks (row_at (number_of f)) p.mark p.a p.b) ≡ refusal (rule_checks (row_at i) (mark_of w) (field_a w) (field_b w))
-  rule_same i f e =
-      rw (h.mark, h.a, h.b) (ap (λ (j : ℕ). refusal (rule_checks (row_at j) (mark_of w) (field_a w) (field_b w))) e)
+  -- what a row's rule refuses the fields with
+  rule_same : (r : Row) → refusal (rule_checks r p.mark p.a p.b) ≡ refusal (rule_checks r (mark_of w) (field_a w) (field_b w))
+  rule_same r =
+      ap (λ (m : ℕ). refusal (rule_checks r m p.a p.b)) h.mark
+      ∙ ap (λ (a : ℕ). refusal (rule_checks r (mark_of w) a p.b)) h.a
+      ∙ ap (λ (b : ℕ). refusal (rule_checks r (mark_of w) (field_a w) b)) h.b
 
   -- a lookup, by the family of the row that is found
   module _ (r : Option Family) (e : RowIs p r) where
@@ -74,7 +75,7 @@ module _ (w : ℕ) (bound : w < 0x10000) (p : Fields) (h : FieldsOf p w) where
         let own : number_of f ≡ word_number w = sym (ap row_number z) ∙ found in
         let listed : word_number w < no_row = subst (λ (j : ℕ). j < no_row) own (own_row f).0 in
         ap (λ (k : Option Refusal). looked k n)
-        (g ∙ ap refusal_of (rule_same (word_number w) f own ∙ sym (passed 7 (leb no_row (word_number w)) rules (lt-leb no_row (word_number w) listed))))
+        (g ∙ ap refusal_of (rule_same (row_at (number_of f)) ∙ ap (λ (j : ℕ). refusal (rule_checks (row_at j) (mark_of w) (field_a w) (field_b w))) own ∙ sym (passed 7 (leb no_row (word_number w)) rules (lt-leb no_row (word_number w) listed))))
         ∙ ap (λ (n : Named). looked (refusal_of (refusal (word_checks w))) n) (q ∙ named_same f)
         ∙ ap (λ (f : Family). looked (refusal_of (refusal (word_checks w))) (of_word f)) (sym (own_row f).1 ∙ ap (λ (j : ℕ). (row_at j).family) own)
 
@@ -151,7 +152,7 @@ module _ (w : ℕ) (bound : w < 0x10000) (p : Fields) (h : FieldsOf p w) where
       (le-leb no_row (word_number w) (none_own p w bound h (taking_none p e)))))
 
   module _ (r : Row) (e : RowTaking p (Some r)) (n : Named) (q : n ≡ named_by_fields r.family p)
-      (k : Option Refusal) (g : k ≡ refusal_of (refusal (rule_checks (row_at (number_of r.family)) p.mark p.a p.b)))
+      (k : Option Refusal) (g : k ≡ refusal_of (refusal (rule_checks (rule_only r.rule) p.mark p.a p.b)))
       (t : Bool) (s : is_some k ≡ not t) where
     i : ℕ
     i = (taking_some p r e).0
@@ -165,8 +166,9 @@ module _ (w : ℕ) (bound : w < 0x10000) (p : Fields) (h : FieldsOf p w) where
 
     number : numbered k ≡ refusal (rule_checks (row_at i) (mark_of w) (field_a w) (field_b w))
     number =
-        ap numbered g ∙ numbered_back false (acc_twice (row_at (number_of r.family)) p.a p.b) (bit_too_high (row_at (number_of r.family)) p.mark p.a)
-        ∙ rule_same w bound p h i r.family (ap (λ (r : Row). number_of r.family) (sym taken_by.row) ∙ own_number i taken_by.listed)
+        ap numbered g ∙ numbered_back false (acc_twice r p.a p.b) (bit_too_high r p.mark p.a)
+        ∙ rule_same w bound p h r
+        ∙ ap (λ (r : Row). refusal (rule_checks r (mark_of w) (field_a w) (field_b w))) (sym taken_by.row)
 
     pub immediate_refused : t ≡ false → t ≡ takes_immediate w
     unfolding takes_immediate
@@ -191,6 +193,11 @@ fill_of r mark a b c =
 -- a row of the number of an instruction's family is its own
 pub row_own : (n : Named) (i : ℕ) (r : Row) → i ≡ number_of n.family → r ≡ row_at i → r ≡ named_row n
 row_own n i r e q = q ∙ ap row_at e
+
+-- and its rule is that of the instruction's row
+pub rule_own : (n : Named) (r : Row) → r ≡ named_row n → (mark : ℕ) (k : Option Refusal) → k ≡ refusal_of (refusal (rule_checks (rule_only r.rule) mark n.a n.b))
+    → k ≡ refusal_of (refusal (rule_checks (named_row n) mark n.a n.b))
+rule_own n r e mark k f = f ∙ ap (λ (r : Row). refusal_of (refusal (rule_checks (rule_only r.rule) mark n.a n.b))) e
 
 module _ (n : Named) (r : Row) (t : Bool) (e : r ≡ named_row n) (u : t ≡ takes r (mark_for n.mode) n.a n.b n.c) where
   pub takes_own : t ≡ takes (named_row n) (mark_for n.mode) n.a n.b n.c

@@ -10,7 +10,6 @@ use lib.ListN.{length}
 use Rattle.alu.specs.declared.Mode.{Mode}
 use Rattle.alu.specs.declared.Mode.TheVariants.{Byte, Word}
 use Rattle.choice.proofs.Spans.{span, below, equal_below, both}
-use Rattle.isa.specs.declared.Row.{Row}
 use Rattle.isa.specs.declared.Family.{Family}
 use Rattle.isa.specs.declared.Family.TheVariants.{Tor1, Rotr1, Rotr2, Rotc, Rotm, Sor, Bor2, Tor2, Shftr, Crcf, Crcr, Prt1, Prt2, Prt3, Svstr, Sonr, Tonr, Shftnr, Bor1, Bonr, Rotnr, Prtnr, Svstnr, Setst, Rstst, Test, Noop}
 use Rattle.isa.specs.Fields.{mark_for, mode_of}

@@ -3,13 +3,14 @@
 use Rattle.std.specs.Prelude.{ℕ, ◌<◌, List, [], ◌∷◌, ◌≡◌, Bool, false, eqb, ltb, Option, Some, None}
 use Rattle.std.specs.List.{find}
 use Rattle.choice.specs.Pick.{pick}
+use Rattle.refusals.specs.declared.Refusal.{Refusal}
 use Rattle.isa.specs.declared.Family.{Family}
-use Rattle.isa.specs.declared.Family.TheVariants.{Bonr, Rotnr}
+use Rattle.isa.specs.declared.Family.TheVariants.{Tor1, Bonr, Rotnr}
 use Rattle.isa.specs.declared.Row.{Row}
 use Rattle.isa.specs.declared.Named.{Named}
 use Rattle.isa.specs.declared.parts.Fields.{Fields}
 use Rattle.isa.specs.Fields.{mark_of, quadrant_of, field_a, field_b, field_c, mode_of, mark_for}
-use Rattle.isa.specs.Table.{rows, no_row, number_of}
+use Rattle.isa.specs.Table.{row, rows, no_row, number_of}
 use Rattle.isa.specs.Slots.{slot_rows, takes, row_of}
 
 abbrev pub first_of : List ℕ → ℕ
@@ -52,6 +53,10 @@ named_by_fields f p = record { family = f; mode = mode_of p.mark; a = p.a; b = p
 -- a row takes some fields: it is of their quadrant and has their mode and values
 abbrev pub takes_fields : Row → Fields → Bool
 takes_fields r p = pick (eqb r.quadrant p.quadrant) (takes r (mark_for (mode_of p.mark)) p.a p.b p.c) false
+
+-- a row of which only the rule counts, for what a rule refuses
+abbrev pub rule_only : Option Refusal → Row
+rule_only rule = row Tor1 0 0 0 0 0 rule 0
 
 -- a row's quadrant, and its sets of values of A, B and C, fit into what the code has for them
 pub record Narrow (r : Row) : Type 0 where

@@ -14,6 +14,7 @@ ghost use Rattle.std.specs.Prelude.{◌≡◌};
 ghost use Rattle.choice.specs.Checks.{refusal};
 ghost use Rattle.isa.specs.Fields.{mark_for, mode_of};
 ghost use Rattle.isa.specs.Table.{row_at, number_of, refusal_of};
+ghost use Rattle.isa.specs.Decision.{rule_only};
 ghost use Rattle.isa.specs.Words.{rule_checks, named_row, decode_of, lookup_of, decoded_tells, encode_of, encoded_tells, takes_immediate};
 
 // The families of the data sheet's summary of mnemonics, in the order of document 01's list.
@@ -98,12 +99,11 @@ pub fn mode_of(mark: u8) -> Mode
     if mark == 0 { Mode::Byte } else { Mode::Word }
 }
 
-// What a family's rule refuses. It goes by the fields, and the instruction is made after it, because the other way about a cycle took 269 instructions and
+// What a rule refuses. It goes by the fields, and the instruction is made after it, because the other way about a cycle took 269 instructions and
 // 1.10 of C's time, and so it takes 254 and 0.99.
-fn rule_refusal(family: Family, mark: u8, a: u8, b: u8) -> Option<Refusal>
-    ensures { result ≡ refusal_of (refusal (rule_checks (row_at (number_of family)) mark a b)) }
+fn rule_refusal(rule: Option<Refusal>, mark: u8, a: u8, b: u8) -> Option<Refusal>
+    ensures { result ≡ refusal_of (refusal (rule_checks (rule_only rule) mark a b)) }
 {
-    let rule = table::rule_of(family);
     match rule {
         Some(Refusal::AccTwice) if a == 8 && b == 4 => rule,
         Some(Refusal::BitTooHigh) if mark == 0 && 7 < a => rule,
@@ -122,7 +122,7 @@ pub fn look_up(word: u16) -> Lookup
             named: fields.named(Family::Tor1),
         },
         Some(family) => Lookup {
-            refusal: rule_refusal(family, fields.mark, fields.a, fields.b),
+            refusal: rule_refusal(table::rule_of(family), fields.mark, fields.a, fields.b),
             named: fields.named(family),
         },
     }
@@ -148,7 +148,7 @@ pub fn encode(named: Named) -> Result<u16, Refusal>
         return Err(Refusal::Unlisted);
     }
     let mark = mark_for(named.mode);
-    if let Some(refusal) = rule_refusal(named.family, mark, named.a, named.b) {
+    if let Some(refusal) = rule_refusal(row.rule, mark, named.a, named.b) {
         return Err(refusal);
     }
     let high = mark as u32 * 0x8000 + row.quadrant as u32 * 0x2000;
@@ -165,7 +165,7 @@ pub fn takes_immediate(word: u16) -> bool
     match table::row_taking(&fields) {
         Some(row) => {
             let named = fields.named(row.family);
-            rule_refusal(row.family, fields.mark, fields.a, fields.b).is_none()
+            rule_refusal(row.rule, fields.mark, fields.a, fields.b).is_none()
                 && row.asks_immediate(named)
         }
         None => false,

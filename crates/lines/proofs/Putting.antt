@@ -1,11 +1,11 @@
--- Text put together piece by piece.
+-- Text put together piece by piece. The law is `draft_puts`: what a method of a `Draft` promises of its text is that it puts it.
 use mathlib.Core.Path.{◌≡◌, refl, sym, ap, ◌∙◌}
 use mathlib.Core.List.{List, [], ◌++◌, append_assoc, append-nil}
 use Prim.Native.Nat.{ℕ, ◌+◌, ◌-◌, ◌≤◌}
 use native.Mathlib.Nat.{add-zero}
 use native.Mathlib.Omega.{arith}
-use lib.ListN.{length, take, drop, length-append}
-use lib.Seq.{drop-drop}
+use lib.ListN.{length, take, drop, length-append, drop_of_length-le}
+use lib.Seq.{drop-drop, take_all}
 use borrow.Rule.Slice.PartMut.{drop_put}
 use Rattle.choice.proofs.Filling.{middle_take, middle_long}
 use Rattle.std.proofs.Common.{Option}
@@ -46,3 +46,11 @@ line_made p m = makes_as p.put m
 
 pub puts_nothing : (at : ℕ) (line : List ℕ) → Puts [] at at line line
 puts_nothing at line = record { end = sym (add-zero at); put = sym (append-nil (take at line)); rest = refl }
+
+-- the bytes that a draft has, and those that it has after a method whose clause says that a text was added
+pub draft_puts : (text before after : List ℕ) → after ≡ before ++ text → Puts text (length before) (length after) before after
+draft_puts text before after e = record {
+  end = ap length e ∙ length-append before text;
+  put = take_all (length after) after (omega arith) ∙ e ∙ ap (λ (l : List ℕ). l ++ text) (sym (take_all (length before) before (omega arith)));
+  rest = drop_of_length-le after (omega arith) ∙ sym (drop_of_length-le before (omega (arith, ap length e ∙ length-append before text)));
+}

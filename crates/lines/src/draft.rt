@@ -3,7 +3,7 @@ ghost use Rattle.std.specs.Prelude.{◌≡◌, ℕ, ◌+◌, ◌≤◌, List, []
 ghost use Rattle.choice.specs.Text.{numeral, hex, decimal, digit_or_none};
 ghost use Rattle.lines.specs.Answers.{Makes};
 
-use crate::digits::{digit_of, digit_or_none, trimmed};
+use crate::digits::{digit_or_none, spell, trimmed};
 use std::marker::Model;
 
 // The digits of the longest number in decimal.
@@ -66,10 +66,10 @@ impl<const N: usize> Draft<N> {
         ensures text { self.new ≡ self.old ++ numeral base count x }
         ensures long { length self.new ≡ length self.old + count }
     {
-        if count > 0 {
-            self.put_numeral(x / base, base, count - 1);
-            self.put_byte(digit_of((x % base) as u8));
-        }
+        let end = self.length + count;
+        let line = &mut self.bytes[..];
+        spell(x, base, &mut line[self.length..end]);
+        self.length = end;
     }
 
     // A word as four hex digits.

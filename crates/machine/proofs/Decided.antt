@@ -1,11 +1,11 @@
 -- The judge's ways out: what the pins and the word are refused with, or that they are not, gives the judgement.
-use mathlib.Core.Path.{◌≡◌, ◌∙◌, sym, ap}
+use mathlib.Core.Path.{◌≡◌, ◌∙◌, sym, ap, subst}
 use mathlib.Core.Bool.{Bool, true, false, not}
 use mathlib.Core.List.{List, [], ◌∷◌}
-use Prim.Native.Nat.{ℕ, ◌<◌}
+use Prim.Native.Nat.{ℕ}
 use lib.Dec.{eqb}
 use borrow.Author.Tests.{ne_eqb}
-use Rattle.std.specs.Prelude.{Ok}
+use Rattle.std.specs.Prelude.{Result, Ok, Err}
 use Rattle.choice.specs.Pick.{pick}
 use Rattle.choice.specs.Checks.{Check, check, refusal}
 use Rattle.choice.specs.Tells.{Tells, accepted, refused}
@@ -16,8 +16,10 @@ use Rattle.refusals.specs.declared.Refusal.{Refusal}
 use Rattle.refusals.specs.declared.Refusal.TheVariants.{NothingToOperate, DisabledImmediate}
 use Rattle.refusals.specs.Numbers.{number_of}
 use Rattle.refusals.proofs.Laws.{number_of_positive}
+use Rattle.isa.specs.declared.Lookup.{Lookup}
 use Rattle.isa.specs.declared.Named.{Named}
-use Rattle.isa.specs.Words.{decode_of, word_checks, named_by, names_i as wordNamesI, takes_immediate}
+use Rattle.isa.specs.Words.{decode_of, word_checks, lookup_of, named_by, names_i as wordNamesI, takes_immediate}
+use Rattle.isa.proofs.Answers.{decode_accepted, decode_refused}
 use Rattle.plan.specs.declared.Plan.{Plan}
 use Rattle.plan.specs.Plans.{plan_of}
 use Rattle.plan.specs.Reading.{names_i}
@@ -26,8 +28,8 @@ use Rattle.machine.specs.declared.Waiting.{Waiting}
 use Rattle.machine.specs.declared.Waiting.TheVariants.{Nothing, Held}
 use Rattle.machine.specs.declared.Words.{Words}
 use Rattle.machine.specs.Pins.{ien_high}
-use Rattle.machine.specs.Deciding.{Planned}
-use Rattle.machine.specs.Judging.{Refuse, Wait, Perform, pin_checks, begin_checks, second_checks, checks_of, accepted_as, judged, judgement_of}
+use Rattle.machine.specs.Deciding.{LooksUp, PlannedBy, Planned}
+use Rattle.machine.specs.Judging.{Refuse, Wait, Perform, word_about, pin_checks, begin_checks, second_checks, checks_of, accepted_as, judged, judgement_of}
 
 -- what the checks give is the judgement
 refused_by : (x : Waiting) (c : Words) (k : Refusal) → refusal (checks_of x c) ≡ number_of k → judgement_of x c ≡ Refuse (number_of k)
@@ -52,16 +54,32 @@ refused_none : (w k : ℕ) → decode_of w ≡ refused k → takes_immediate w �
 unfolding takes_immediate
 refused_none w k e = ap (λ (t : Tells Named). wordNamesI t.value) e
 
--- an accepted one is planned, and is the instruction that it names
-pub planned_right : (w : ℕ) → w < 0x10000 → (n : Named) (p : Plan) → decode_of w ≡ accepted n → p ≡ plan_of n → Planned w (Ok (n, p))
-planned_right w h n p e f = (e, f, word_immediate w h n e ∙ ap (λ (p : Plan). names_i p.work) (sym f))
+-- what was looked up, and its plan, are what decoding tells of the word
+pub planned_right : (x : Waiting) (lines : ℕ) (f : Lookup) → LooksUp x lines f → (r : Result (Named × Plan) Refusal) → PlannedBy f r → Planned (word_about x lines) r
+planned_right x lines f g (Ok (n, p)) e =
+    let w : ℕ = word_about x lines in
+    let told : decode_of w ≡ accepted n = sym (decode_accepted w f g.0 e.0) ∙ ap accepted (sym e.1) in
+    (told, e.2, word_immediate w g.1 n told ∙ ap (λ (p : Plan). names_i p.work) (sym e.2))
+planned_right x lines f g (Err k) e = sym (decode_refused (word_about x lines) f g.0 k e)
 
+-- and it names that word's instruction
+pub looked_named : (x : Waiting) (lines : ℕ) (f : Lookup) → LooksUp x lines f → f.named ≡ named_by (word_about x lines)
+unfolding lookup_of
+looked_named x lines f g = ap (λ (f : Lookup). f.named) g.0
+
+-- an accepted word is the instruction that it names
 pub named_right : (w : ℕ) (n : Named) → decode_of w ≡ accepted n → n ≡ named_by w
 unfolding decode_of
 named_right w n e = sym (told_accepted (refusal (word_checks w)) (named_by w) n e).1
 
 -- with nothing waiting
 module _ (x : Waiting) (c : Words) (idle : x ≡ Nothing) where
+  pub begin_planned : (f : Lookup) → LooksUp x c.lines f → (n : Named) (p : Plan) → PlannedBy f (Ok (n, p)) → Planned c.lines (Ok (n, p))
+  begin_planned f g n p e = subst (λ (x : Waiting). Planned (word_about x c.lines) (Ok (n, p))) idle (planned_right x c.lines f g (Ok (n, p)) e)
+
+  pub begin_refusal : (f : Lookup) → LooksUp x c.lines f → (k : Refusal) → PlannedBy f (Err k) → Planned c.lines (Err k)
+  begin_refusal f g k e = subst (λ (x : Waiting). Planned (word_about x c.lines) (Err k)) idle (planned_right x c.lines f g (Err k) e)
+
   abbrev late : Bool → List Check
   late asks = check 10 (pick asks (ien_high c.pins) false) ∷ []
 
@@ -106,6 +124,12 @@ module _ (x : Waiting) (c : Words) (idle : x ≡ Nothing) where
 
 -- with a word waiting
 module _ (x : Waiting) (c : Words) (w : ℕ) (waits : x ≡ Held w) where
+  pub second_planned : (f : Lookup) → LooksUp x c.lines f → (n : Named) (p : Plan) → PlannedBy f (Ok (n, p)) → Planned w (Ok (n, p))
+  second_planned f g n p e = subst (λ (x : Waiting). Planned (word_about x c.lines) (Ok (n, p))) waits (planned_right x c.lines f g (Ok (n, p)) e)
+
+  pub second_refusal : (f : Lookup) → LooksUp x c.lines f → (k : Refusal) → PlannedBy f (Err k) → Planned w (Err k)
+  second_refusal f g k e = subst (λ (x : Waiting). Planned (word_about x c.lines) (Err k)) waits (planned_right x c.lines f g (Err k) e)
+
   second_refused : (k : Refusal) → refusal (second_checks w c) ≡ number_of k → judgement_of x c ≡ Refuse (number_of k)
   second_refused k e = refused_by x c k (ap (λ (x : Waiting). refusal (checks_of x c)) waits ∙ e)
 

@@ -6,7 +6,6 @@ use mathlib.Core.List.{List}
 use Prim.Native.Nat.{ℕ, ◌%◌}
 use lib.ListN.{get_or}
 use Rattle.std.specs.Prelude.{Result, Ok, Err}
-use Rattle.choice.specs.Tells.{refused}
 use Rattle.choice.proofs.Picks.{picked, unpicked}
 use Rattle.choice.proofs.Tells.{accepted_one, refused_one, accepted_refused}
 use Rattle.refusals.specs.declared.Refusal.{Refusal}
@@ -20,16 +19,17 @@ use Rattle.machine.specs.declared.Machine.{Machine}
 use Rattle.machine.specs.declared.Words.{Words}
 use Rattle.machine.specs.declared.Verdict.{Verdict}
 use Rattle.machine.specs.declared.Stepped.{Stepped}
+use Rattle.machine.specs.declared.RefusedStep.{RefusedStep}
 use Rattle.machine.specs.declared.Effect.{Effect}
 use Rattle.machine.specs.declared.Report.{Report}
-use Rattle.machine.specs.Judging.{Judgement, Refuse, Wait, Perform, judgement_of}
+use Rattle.isa.specs.Words.{named_by}
+use Rattle.machine.specs.Judging.{Judgement, Refuse, Wait, Perform, word_about, judgement_of}
 use Rattle.machine.specs.Seeing.{view_of}
 use Rattle.machine.specs.Acting.{effect_of}
 use Rattle.machine.specs.Settling.{latched, settled_of}
 use Rattle.machine.specs.Deciding.{Judges}
 use Rattle.machine.specs.Reporting.{ct_of}
-use Rattle.machine.specs.Cycles.{Turned, report_of, performed_turn, turn_of, turn_tells, cycle_of}
-use Rattle.machine.proofs.Laws.{refused_unchanged}
+use Rattle.machine.specs.Cycles.{Turned, report_of, performed_turn, turn_of, cycle_of}
 use Rattle.machine.specs.Stepping.{registers_of, machine_from, core_of, step_tells, Steps, latched_core, seen_of, settled_ram, settled_core, waiting_step, Performed}
 
 -- an instruction's step, by the core after it
@@ -56,14 +56,15 @@ module _ (ram : List ℕ) (k : Core) (c : Words) where
   unfolding cycle_of
   turn_by x e = ap (λ (x : Judgement). turn_of x m (latched m.registers c.input c.pins) c) (sym e)
 
-  pub refuses : (j : Refusal) → judgement_of k.waiting c ≡ Refuse (number_of j) → Steps ram k c (Err j) ram
-  refuses j e = record { turn = turn_by (Refuse (number_of j)) e; named = tt }
+  pub refuses : (j : Refusal) → judgement_of k.waiting c ≡ Refuse (number_of j) → (n : Named) → n ≡ named_by (word_about k.waiting c.lines)
+      → Steps ram k c (Err (record { core = k; named = n; refusal = j })) ram
+  refuses j e n f = record { turn = turn_by (Refuse (number_of j)) e; named = f }
 
   module _ (v : Verdict) (e : Judges k.waiting c (Ok v)) (b : Core) (g : b ≡ latched_core k c.input c.pins) where
     pub waits_first : v.begins ≡ true → Steps ram k c (Ok (waiting_step v.named b c)) ram
     waits_first t = record {
       turn =
-          ap (λ (b : Core). step_tells k ram (Ok (waiting_step v.named b c))) g
+          ap (λ (b : Core). step_tells ram (Ok (waiting_step v.named b c))) g
           ∙ turn_by Wait (e.0 ∙ picked v.begins Wait (Perform v.named v.plan v.immediate) t);
       named = e.1;
     }
@@ -76,15 +77,6 @@ module _ (ram : List ℕ) (k : Core) (c : Words) where
       named = p.named ∙ e.1;
     }
 
--- a refused step of a machine's RAM and core is its refused cycle
-pub refused_turn : (m : Machine) (k : Core) → k ≡ core_of m.registers → (c : Words) (r : Result Stepped Refusal) (j : Refusal) (after : List ℕ)
-    → r ≡ Err j → Steps m.registers.ram k c r after → turn_tells (record { machine = m; answer = Err j }) ≡ cycle_of m c
-refused_turn m k g c r j after e s =
-    let told : step_tells k after (Err j) ≡ cycle_of m c =
-    ap (step_tells k after) (sym e) ∙ s.turn ∙ ap (λ (k : Core). cycle_of (machine_from m.registers.ram k) c) g in
-    let kept : (cycle_of m c).machine ≡ m = refused_unchanged m c (number_of j) (ap (λ (u : Turned). u.answer) (sym told)) in
-    ap (λ (n : Machine). record { machine = n; answer = refused (number_of j) }) (sym (ap (λ (u : Turned). u.machine) told ∙ kept)) ∙ told
-
 -- what a step tells fixes all of it but the instruction
 same_stepped : (s t : Stepped) → s.core ≡ t.core → s.named ≡ t.named → s.report ≡ t.report → s ≡ t
 same_stepped s t e f g =
@@ -92,25 +84,33 @@ same_stepped s t e f g =
     ∙ ap (λ (n : Named). record { core = t.core; named = n; report = s.report }) f
     ∙ ap (λ (r : Report). record { core = t.core; named = t.named; report = r }) g
 
+same_refused : (s t : RefusedStep) → s.core ≡ t.core → s.named ≡ t.named → s.refusal ≡ t.refusal → s ≡ t
+same_refused s t e f g =
+    ap (λ (k : Core). record { core = k; named = s.named; refusal = s.refusal }) e
+    ∙ ap (λ (n : Named). record { core = t.core; named = n; refusal = s.refusal }) f
+    ∙ ap (λ (r : Refusal). record { core = t.core; named = t.named; refusal = r }) g
+
 -- no two outcomes satisfy the statement of a step
-answers_same : (ram : List ℕ) (k : Core) (c : Words) (q r : Result Stepped Refusal) (x y : List ℕ) → Steps ram k c q x → Steps ram k c r y → q ≡ r
+answers_same : (ram : List ℕ) (k : Core) (c : Words) (q r : Result Stepped RefusedStep) (x y : List ℕ) → Steps ram k c q x → Steps ram k c r y → q ≡ r
 answers_same ram k c (Ok s) (Ok t) x y f g =
-    let turns : step_tells k x (Ok s) ≡ step_tells k y (Ok t) = f.turn ∙ sym g.turn in
+    let turns : step_tells x (Ok s) ≡ step_tells y (Ok t) = f.turn ∙ sym g.turn in
     ap Ok (same_stepped s t (ap (λ (u : Turned). core_of u.machine.registers) turns) (f.named ∙ sym g.named)
     (accepted_one s.report t.report (ap (λ (u : Turned). u.answer) turns)))
-answers_same ram k c (Ok s) (Err j) x y f g = absurd (accepted_refused s.report (number_of j) (ap (λ (u : Turned). u.answer) (f.turn ∙ sym g.turn)))
-answers_same ram k c (Err i) (Ok t) x y f g = absurd (accepted_refused t.report (number_of i) (ap (λ (u : Turned). u.answer) (g.turn ∙ sym f.turn)))
+answers_same ram k c (Ok s) (Err j) x y f g = absurd (accepted_refused s.report (number_of j.refusal) (ap (λ (u : Turned). u.answer) (f.turn ∙ sym g.turn)))
+answers_same ram k c (Err i) (Ok t) x y f g = absurd (accepted_refused t.report (number_of i.refusal) (ap (λ (u : Turned). u.answer) (g.turn ∙ sym f.turn)))
 answers_same ram k c (Err i) (Err j) x y f g =
-    ap Err (number_of_one i j (refused_one {A = Report} (number_of i) (number_of j) (ap (λ (u : Turned). u.answer) (f.turn ∙ sym g.turn))))
+    let turns : step_tells x (Err i) ≡ step_tells y (Err j) = f.turn ∙ sym g.turn in
+    ap Err (same_refused i j (ap (λ (u : Turned). core_of u.machine.registers) turns) (f.named ∙ sym g.named)
+    (number_of_one i.refusal j.refusal (refused_one {A = Report} (number_of i.refusal) (number_of j.refusal) (ap (λ (u : Turned). u.answer) turns))))
 
-left : (k : Core) (ram : List ℕ) (r : Result Stepped Refusal) → (step_tells k ram r).machine.registers.ram ≡ ram
-left k ram (Ok s) = refl
-left k ram (Err j) = refl
+left : (ram : List ℕ) (r : Result Stepped RefusedStep) → (step_tells ram r).machine.registers.ram ≡ ram
+left ram (Ok s) = refl
+left ram (Err j) = refl
 
-pub step_unique : (ram : List ℕ) (k : Core) (c : Words) (q r : Result Stepped Refusal) (x y : List ℕ) → Steps ram k c q x → Steps ram k c r y → (q ≡ r) × (x ≡ y)
+pub step_unique : (ram : List ℕ) (k : Core) (c : Words) (q r : Result Stepped RefusedStep) (x y : List ℕ) → Steps ram k c q x → Steps ram k c r y → (q ≡ r) × (x ≡ y)
 step_unique ram k c q r x y f g = (
   answers_same ram k c q r x y f g,
-  sym (left k x q) ∙ ap (λ (u : Turned). u.machine.registers.ram) (f.turn ∙ sym g.turn) ∙ left k y r,
+  sym (left x q) ∙ ap (λ (u : Turned). u.machine.registers.ram) (f.turn ∙ sym g.turn) ∙ left y r,
 )
 
 -- and those of taking a machine apart and of putting one together

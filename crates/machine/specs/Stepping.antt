@@ -1,13 +1,12 @@
 -- One cycle as the code goes about it: RAM in place, and the other registers as the core. What a cycle is, is said in Cycles. First come the
 -- statements of `core_of`, `machine_from` and `step`; what follows `Steps` only serves the parts of a step.
-use Rattle.std.specs.Prelude.{ℕ, ◌≡◌, Bool, true, false, List, [], ◌∷◌, None, Result, Ok, Err, IfOk}
+use Rattle.std.specs.Prelude.{ℕ, ◌≡◌, Bool, true, false, List, [], ◌∷◌, None, Result, Ok, Err}
 use Rattle.choice.specs.Pick.{pick}
 use Rattle.choice.specs.Tells.{accepted, refused}
 use Rattle.alu.specs.declared.Mode.{Mode}
 use Rattle.alu.specs.declared.Operation.{Operation}
 use Rattle.alu.specs.declared.Operation.TheVariants.{TwoOperand as TwoOperandOn, OneOperand as OneOperandOn, Bit as BitOn, Shift as ShiftOn, Rotate as RotateOn, Merge as MergeOn, Compare as CompareOn, Prioritize as PrioritizeOn, CrcForward as CrcForwardOn, CrcReverse as CrcReverseOn}
 use Rattle.alu.specs.Width.{width_of, low, write_back}
-use Rattle.refusals.specs.declared.Refusal.{Refusal}
 use Rattle.refusals.specs.Numbers.{number_of}
 use Rattle.isa.specs.declared.Named.{Named}
 use Rattle.isa.specs.Words.{named_by}
@@ -25,6 +24,7 @@ use Rattle.machine.specs.declared.Core.{Core}
 use Rattle.machine.specs.declared.Machine.{Machine}
 use Rattle.machine.specs.declared.Words.{Words}
 use Rattle.machine.specs.declared.Stepped.{Stepped}
+use Rattle.machine.specs.declared.RefusedStep.{RefusedStep}
 use Rattle.machine.specs.declared.Verdict.{Verdict}
 use Rattle.machine.specs.declared.View.{View}
 use Rattle.machine.specs.declared.Effect.{Effect}
@@ -45,16 +45,21 @@ machine_from ram core = machine_of (registers_of ram core)
 abbrev pub core_of : Registers → Core
 core_of r = record { acc = r.acc; latch = r.latch; status = r.status; waiting = r.waiting }
 
--- what a step from some core tells, with the RAM that it left: the core after it, which is as it was where the step is refused, and the answer
-abbrev pub step_tells : Core → List ℕ → Result Stepped Refusal → Turned
-step_tells core ram (Ok s) = record { machine = machine_from ram s.core; answer = accepted s.report }
-step_tells core ram (Err k) = record { machine = machine_from ram core; answer = refused (number_of k) }
+-- what a step tells, with the RAM that it left: the core after it, and the answer
+abbrev pub step_tells : List ℕ → Result Stepped RefusedStep → Turned
+step_tells ram (Ok s) = record { machine = machine_from ram s.core; answer = accepted s.report }
+step_tells ram (Err e) = record { machine = machine_from ram e.core; answer = refused (number_of e.refusal) }
 
--- A step from RAM and core leaves RAM and answers: what it tells is the cycle, so where it is refused RAM is as it was. Besides, so that every
--- field is fixed: an accepted step names the instruction of the word which the cycle is about, also where it only begins it.
-pub record Steps (ram : List ℕ) (core : Core) (c : Words) (r : Result Stepped Refusal) (after : List ℕ) : Type 0 where
-  pub turn : step_tells core after r ≡ cycle_of (machine_from ram core) c
-  pub named : IfOk r (λ s. s.named ≡ named_by (word_about core.waiting c.lines))
+-- the instruction that it names
+abbrev pub named_in : Result Stepped RefusedStep → Named
+named_in (Ok s) = s.named
+named_in (Err e) = e.named
+
+-- A step from RAM and core leaves RAM and answers: what it tells is the cycle, so where it is refused RAM and core are as they were. Besides, so
+-- that every field is fixed: it names the instruction of the word which the cycle is about, also where it only begins it, and where it is refused.
+pub record Steps (ram : List ℕ) (core : Core) (c : Words) (r : Result Stepped RefusedStep) (after : List ℕ) : Type 0 where
+  pub turn : step_tells after r ≡ cycle_of (machine_from ram core) c
+  pub named : named_in r ≡ named_by (word_about core.waiting c.lines)
 
 -- D latched, and a word kept waiting
 abbrev pub latched_core : Core → ℕ → ℕ → Core
@@ -144,5 +149,5 @@ waiting_step n core c = record {
 
 -- an instruction's step, with D latched already
 pub record Performed (ram : List ℕ) (v : Verdict) (core : Core) (pins : ℕ) (s : Stepped) (after : List ℕ) : Type 0 where
-  pub turn : step_tells core after (Ok s) ≡ performed_turn v.named v.plan (registers_of ram core) v.immediate pins
+  pub turn : step_tells after (Ok s) ≡ performed_turn v.named v.plan (registers_of ram core) v.immediate pins
   pub named : s.named ≡ v.named

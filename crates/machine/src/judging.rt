@@ -1,11 +1,11 @@
-// Whether a cycle is refused, waits, or performs an instruction. A cycle's word is decoded here and nowhere else.
+// Whether a cycle is refused, waits, or performs an instruction. A cycle's word is looked up here and nowhere else.
 ghost use Rattle.std.specs.Prelude.{◌≡◌, []};
 ghost use Rattle.choice.specs.Checks.{refusal};
 ghost use Rattle.machine.specs.Judging.{pin_checks, word_about};
-ghost use Rattle.machine.specs.Deciding.{fault_in, Planned, Judges};
+ghost use Rattle.machine.specs.Deciding.{fault_in, LooksUp, PlannedBy, Judges};
 
 use crate::{Verdict, Waiting, Words, pins};
-use isa::Named;
+use isa::{Lookup, Named};
 use plan::Plan;
 use refusals::Refusal;
 
@@ -32,21 +32,31 @@ fn pins_allowed(levels: u16) -> Result<(), Refusal>
     Ok(())
 }
 
-// The instruction of the word that a cycle is about, and its plan. The only call of decoding and of planning, because the compiler makes a
-// part of the cycle only of what is called once.
-fn planned(waiting: Waiting, lines: u16) -> Result<(Named, Plan), Refusal>
-    ensures { Planned (word_about waiting lines) result }
+// What the word says that a cycle is about. The only call of looking up, as that below is of planning, because the compiler makes a part of the
+// cycle only of what is called once.
+pub(crate) fn look_up(waiting: Waiting, lines: u16) -> Lookup
+    ensures { LooksUp waiting lines result }
 {
-    let named = isa::decode(word_about(waiting, lines))?;
-    Ok((named, plan::plan_for(named)))
+    isa::look_up(word_about(waiting, lines))
+}
+
+// The instruction of an accepted word, and its plan.
+fn planned(found: Lookup) -> Result<(Named, Plan), Refusal>
+    ensures { PlannedBy found result }
+{
+    match found.refusal {
+        None => Ok((found.named, plan::plan_for(found.named))),
+        Some(refusal) => Err(refusal),
+    }
 }
 
 // Whether a cycle is refused, only begins an instruction, or performs one. Both lists of checks stand in this one function, because with one
 // function for each a cycle takes more instructions.
-pub(crate) fn judge(waiting: Waiting, words: Words) -> Result<Verdict, Refusal>
+pub(crate) fn judge(waiting: Waiting, found: Lookup, words: Words) -> Result<Verdict, Refusal>
+    requires { LooksUp waiting words.lines found }
     ensures { Judges waiting words result }
 {
-    let decoded = planned(waiting, words.lines);
+    let decoded = planned(found);
     match waiting {
         Waiting::Nothing => {
             pins_allowed(words.pins)?;

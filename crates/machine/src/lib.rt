@@ -83,6 +83,14 @@ pub struct Stepped {
     pub report: Report,
 }
 
+// What a refused step leaves and tells: the core as it was, the instruction of the word that it is about, and the refusal.
+#[derive(Clone, Copy)]
+pub struct RefusedStep {
+    pub core: Core,
+    pub named: Named,
+    pub refusal: Refusal,
+}
+
 // What an accepted cycle is judged to be: whether it only begins an instruction, and the instruction of the word that it is about with its plan
 // and its I operand. Not an enum: as one, a cycle took 291 instructions and 1.12 of C's time, and so 254 and 0.99.
 #[derive(Clone, Copy)]
@@ -152,10 +160,20 @@ pub fn machine_from(ram: [u16; 32], core: Core) -> Machine
 }
 
 // One cycle with RAM in place: it is judged; it is refused or, with D latched, it waits, or its instruction sees, acts and settles.
-pub fn step(ram: &mut [u16; 32], core: Core, words: Words) -> Result<Stepped, Refusal>
+pub fn step(ram: &mut [u16; 32], core: Core, words: Words) -> Result<Stepped, RefusedStep>
     ensures { Steps ram.old core words result ram.new }
 {
-    let judged = judging::judge(core.waiting, words)?;
+    let found = judging::look_up(core.waiting, words.lines);
+    let judged = match judging::judge(core.waiting, found, words) {
+        Ok(judged) => judged,
+        Err(refusal) => {
+            return Err(RefusedStep {
+                core,
+                named: found.named,
+                refusal,
+            });
+        }
+    };
     let before = settling::latched(core, words.input, words.pins);
     if judged.begins {
         return Ok(stepping::waits(judged.named, before, words));
@@ -173,9 +191,9 @@ pub fn cycle(machine: Machine, words: Words) -> Turn
             machine: machine_from(ram, stepped.core),
             answer: Ok(stepped.report),
         },
-        Err(refusal) => Turn {
-            machine,
-            answer: Err(refusal),
+        Err(refused) => Turn {
+            machine: machine_from(ram, refused.core),
+            answer: Err(refused.refusal),
         },
     }
 }

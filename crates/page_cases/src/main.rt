@@ -7,7 +7,7 @@ ghost use Rattle.page_cases.specs.declared.TheConstants.{MOST};
 
 use std::io;
 use std::io::Read;
-use streams::{decimal, fill};
+use streams::{Regardless, decimal, fill};
 
 // The bytes of a header line, the line feed too.
 const HEADER: usize = 14;
@@ -51,18 +51,17 @@ fn print_page(rt: &impl Print, trace: &[u8]) -> io::Result<()> {
 }
 
 // Ends where the input does, or with "bad input" where what comes next is no case. (block_counts goes on so too, over cases of another kind.)
-fn print_pages(rt: &HostRuntime) -> io::Result<()> {
-    let mut from = rt.stdin();
+fn print_pages<R: Read>(rt: &impl Print, input: &mut R) -> io::Result<()> {
     for cases in 0..CASES {
         let mut header = [0; HEADER];
-        if fill(&mut from, &mut header).unwrap_or_else(|failed| failed.bytes) == 0 {
+        if fill(input, &mut header).unwrap_or_else(|failed| failed.bytes) == 0 {
             return Ok(());
         }
         let Some(case) = case_of(&header) else {
             break;
         };
         let mut zeros = [0; MOST];
-        if from.read_exact(&mut zeros[..case.payload]).is_err() {
+        if input.read_exact(&mut zeros[..case.payload]).is_err() {
             break;
         }
         println!(rt; "case {}", cases + 1)?;
@@ -71,7 +70,7 @@ fn print_pages(rt: &HostRuntime) -> io::Result<()> {
     println!(rt; "bad input")
 }
 
-// Where something cannot be printed there is nobody to tell.
+// Where something cannot be printed there is nobody to tell, and what follows is printed all the same.
 fn main(rt: HostRuntime) {
-    let _ = print_pages(&rt);
+    let _ = print_pages(&Regardless { to: &rt }, &mut rt.stdin());
 }

@@ -108,8 +108,9 @@ fn run_cycles(machine: Machine, words: &[u16], budget: u64, reports: &mut [u16])
                 core = stepped.core;
                 completed += instructions(stepped.report);
             }
-            Err(refusal) => {
-                return ended(ram, core, Ending::Refused(refusal.into(), i), i, completed);
+            Err(refused) => {
+                let ending = Ending::Refused(refused.refusal.into(), i);
+                return ended(ram, refused.core, ending, i, completed);
             }
         }
     }

@@ -6,7 +6,8 @@ use cases::{print_changed, print_core, word};
 use machine::Machine;
 use run::{Ending, Ran};
 use std::io;
-use streams::{fill, hex};
+use std::io::Read;
+use streams::{Regardless, fill, hex};
 
 // The bytes of a header line and of a pattern line, the line feed too.
 const HEADER: usize = 52;
@@ -148,11 +149,11 @@ fn run_case(case: Case<'_>, words: &mut [u16], buffer: &mut [u16]) -> Option<Ran
     Some(run::run(case.start, words, case.budget, lent))
 }
 
-fn print_runs(rt: &HostRuntime) -> io::Result<()> {
+fn print_runs<R: Read>(rt: &impl Print, input: &mut R) -> io::Result<()> {
     let mut text = [0; 14336];
     let mut words = [0; 12297];
     let mut buffer = [0; 16400];
-    let length = fill(&mut rt.stdin(), &mut text).unwrap_or_else(|failed| failed.bytes);
+    let length = fill(input, &mut text).unwrap_or_else(|failed| failed.bytes);
     let mut rest = &text[..length];
     for number in 1..=length / HEADER {
         let Some((case, after)) = first_case(rest) else {
@@ -167,7 +168,7 @@ fn print_runs(rt: &HostRuntime) -> io::Result<()> {
     Ok(())
 }
 
-// Where something cannot be printed there is nobody to tell.
+// Where something cannot be printed there is nobody to tell, and what follows is printed all the same.
 fn main(rt: HostRuntime) {
-    let _ = print_runs(&rt);
+    let _ = print_runs(&Regardless { to: &rt }, &mut rt.stdin());
 }

@@ -19,12 +19,15 @@ returns-then-read-lt-CHUNK g c =
     let (taken, consumed, kept) = c.loop.invariant.1 in
     let fits : n ≤ length chunk = search rules in
     record {
-      short = omega (arith, c.kept-kept-in-loop.ensures, kept_lt 3 (c.loop.kept + n));
-      counted = all_taken _ _ (taken ++ take n chunk) (λ xs. c.kept-kept-in-loop.result ≡ kept_length words_per_record (c.args.first + length xs))
+      short = omega (arith, c.kept-kept-in-Ok.ensures, kept_lt 3 (c.loop.kept + n));
+      counted = all_taken _ _ (taken ++ take n chunk) (λ xs. c.kept-kept-in-Ok.result ≡ kept_length words_per_record (c.args.first + length xs))
           (Consumes-trans _ _ _ _ _ consumed c.in-Ok.ensures.read)
           (c.in-Ok.ensures.end (search rules))
-          (counted_more c.args.first n c.loop.kept c.kept-kept-in-loop.result taken chunk fits kept c.kept-kept-in-loop.ensures);
+          (counted_more c.args.first n c.loop.kept c.kept-kept-in-Ok.result taken chunk fits kept c.kept-kept-in-Ok.ensures);
     }
+
+pub returns-in-Err-clause-short : goal.returns-in-Err-clause-short
+returns-in-Err-clause-short g c = omega (arith, c.kept-bytes.ensures, kept_lt 3 (c.loop.kept + c.in-Err.failed.bytes))
 
 pub loop-preserved : goal.loop-preserved
 loop-preserved g c =
@@ -32,10 +35,10 @@ loop-preserved g c =
     let chunk = c.fill.new.bytes in
     let (taken, consumed, kept) = c.loop.invariant.1 in
     let fits : n ≤ length chunk = search rules in (
-      omega (arith, c.kept-kept-in-loop.ensures, kept_lt 3 (c.loop.kept + n)),
+      omega (arith, c.kept-kept-in-Ok.ensures, kept_lt 3 (c.loop.kept + n)),
       (
         taken ++ take n chunk,
         Consumes-trans _ _ _ _ _ consumed c.in-Ok.ensures.read,
-        counted_more c.args.first n c.loop.kept c.kept-kept-in-loop.result taken chunk fits kept c.kept-kept-in-loop.ensures,
+        counted_more c.args.first n c.loop.kept c.kept-kept-in-Ok.result taken chunk fits kept c.kept-kept-in-Ok.ensures,
       ),
     )
