@@ -1,4 +1,4 @@
--- Text put together piece by piece. The law is `draft_puts`: what a method of a `Draft` promises of its text is that it puts it.
+-- Text put together piece by piece. The law is `draft_puts`: from what a method of a `Draft` promises of its text it follows that it puts it.
 use mathlib.Core.Path.{◌≡◌, refl, sym, ap, ◌∙◌}
 use mathlib.Core.List.{List, [], ◌++◌, append_assoc, append-nil}
 use Prim.Native.Nat.{ℕ, ◌+◌, ◌-◌, ◌≤◌}

@@ -1,5 +1,5 @@
--- For the laws of private parts alone, those that put text: text put at a place of a longer text that is being made. There is room for it. What each
--- method of a `Draft` says of its text is this (proofs/Putting, `draft_puts`).
+-- For the laws of private parts alone, those that put text: text put at a place of a longer text that is being made. There is room for it. It follows
+-- from what each method of a `Draft` says of its text (proofs/Putting, `draft_puts`).
 use Rattle.std.specs.Prelude.{◌≡◌, ℕ, ◌+◌, List, ◌++◌, length, take, drop}
 
 -- from `at` to r stands the text, before it what was there, and after it too

@@ -2,7 +2,7 @@
 ghost use Rattle.std.specs.Prelude.{◌≡◌, ◌≤◌, ◌<◌, length};
 ghost use Rattle.choice.specs.Text.{digit, numeral, trimmed, digit_or_none};
 
-pub(crate) fn digit_of(d: u8) -> u8
+fn digit_of(d: u8) -> u8
     requires { d < 16 }
     ensures { result ≡ digit d }
 {

@@ -55,12 +55,16 @@ unfolding takes_immediate
 refused_none w k e = ap (λ (t : Tells Named). wordNamesI t.value) e
 
 -- what was looked up, and its plan, are what decoding tells of the word
-pub planned_right : (x : Waiting) (lines : ℕ) (f : Lookup) → LooksUp x lines f → (r : Result (Named × Plan) Refusal) → PlannedBy f r → Planned (word_about x lines) r
+planned_right : (x : Waiting) (lines : ℕ) (f : Lookup) → LooksUp x lines f → (r : Result (Named × Plan) Refusal) → PlannedBy f r → Planned (word_about x lines) r
 planned_right x lines f g (Ok (n, p)) e =
     let w : ℕ = word_about x lines in
     let told : decode_of w ≡ accepted n = sym (decode_accepted w f g.0 e.0) ∙ ap accepted (sym e.1) in
     (told, e.2, word_immediate w g.1 n told ∙ ap (λ (p : Plan). names_i p.work) (sym e.2))
 planned_right x lines f g (Err k) e = sym (decode_refused (word_about x lines) f g.0 k e)
+
+-- the same, by what is known of the waiting word
+pub planned_for : (x y : Waiting) → x ≡ y → (lines : ℕ) (f : Lookup) → LooksUp x lines f → (r : Result (Named × Plan) Refusal) → PlannedBy f r → Planned (word_about y lines) r
+planned_for x y e lines f g r p = subst (λ (y : Waiting). Planned (word_about y lines) r) e (planned_right x lines f g r p)
 
 -- and it names that word's instruction
 pub looked_named : (x : Waiting) (lines : ℕ) (f : Lookup) → LooksUp x lines f → f.named ≡ named_by (word_about x lines)
@@ -74,12 +78,6 @@ named_right w n e = sym (told_accepted (refusal (word_checks w)) (named_by w) n 
 
 -- with nothing waiting
 module _ (x : Waiting) (c : Words) (idle : x ≡ Nothing) where
-  pub begin_planned : (f : Lookup) → LooksUp x c.lines f → (n : Named) (p : Plan) → PlannedBy f (Ok (n, p)) → Planned c.lines (Ok (n, p))
-  begin_planned f g n p e = subst (λ (x : Waiting). Planned (word_about x c.lines) (Ok (n, p))) idle (planned_right x c.lines f g (Ok (n, p)) e)
-
-  pub begin_refusal : (f : Lookup) → LooksUp x c.lines f → (k : Refusal) → PlannedBy f (Err k) → Planned c.lines (Err k)
-  begin_refusal f g k e = subst (λ (x : Waiting). Planned (word_about x c.lines) (Err k)) idle (planned_right x c.lines f g (Err k) e)
-
   abbrev late : Bool → List Check
   late asks = check 10 (pick asks (ien_high c.pins) false) ∷ []
 
@@ -124,12 +122,6 @@ module _ (x : Waiting) (c : Words) (idle : x ≡ Nothing) where
 
 -- with a word waiting
 module _ (x : Waiting) (c : Words) (w : ℕ) (waits : x ≡ Held w) where
-  pub second_planned : (f : Lookup) → LooksUp x c.lines f → (n : Named) (p : Plan) → PlannedBy f (Ok (n, p)) → Planned w (Ok (n, p))
-  second_planned f g n p e = subst (λ (x : Waiting). Planned (word_about x c.lines) (Ok (n, p))) waits (planned_right x c.lines f g (Ok (n, p)) e)
-
-  pub second_refusal : (f : Lookup) → LooksUp x c.lines f → (k : Refusal) → PlannedBy f (Err k) → Planned w (Err k)
-  second_refusal f g k e = subst (λ (x : Waiting). Planned (word_about x c.lines) (Err k)) waits (planned_right x c.lines f g (Err k) e)
-
   second_refused : (k : Refusal) → refusal (second_checks w c) ≡ number_of k → judgement_of x c ≡ Refuse (number_of k)
   second_refused k e = refused_by x c k (ap (λ (x : Waiting). refusal (checks_of x c)) waits ∙ e)
 
