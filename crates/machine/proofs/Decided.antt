@@ -2,7 +2,7 @@
 use mathlib.Core.Path.{◌≡◌, ◌∙◌, sym, ap, subst}
 use mathlib.Core.Bool.{Bool, true, false, not}
 use mathlib.Core.List.{List, [], ◌∷◌}
-use Prim.Native.Nat.{ℕ}
+use Prim.Native.Nat.{ℕ, ◌<◌}
 use lib.Dec.{eqb}
 use borrow.Author.Tests.{ne_eqb}
 use Rattle.std.specs.Prelude.{Result, Ok, Err}
@@ -54,17 +54,19 @@ refused_none : (w k : ℕ) → decode_of w ≡ refused k → takes_immediate w �
 unfolding takes_immediate
 refused_none w k e = ap (λ (t : Tells Named). wordNamesI t.value) e
 
+-- an accepted word is planned
+pub planned_right : (w : ℕ) → w < 0x10000 → (n : Named) (p : Plan) → decode_of w ≡ accepted n → p ≡ plan_of n → Planned w (Ok (n, p))
+planned_right w h n p e f = (e, f, word_immediate w h n e ∙ ap (λ (p : Plan). names_i p.work) (sym f))
+
 -- what was looked up, and its plan, are what decoding tells of the word
-planned_right : (x : Waiting) (lines : ℕ) (f : Lookup) → LooksUp x lines f → (r : Result (Named × Plan) Refusal) → PlannedBy f r → Planned (word_about x lines) r
-planned_right x lines f g (Ok (n, p)) e =
-    let w : ℕ = word_about x lines in
-    let told : decode_of w ≡ accepted n = sym (decode_accepted w f g.0 e.0) ∙ ap accepted (sym e.1) in
-    (told, e.2, word_immediate w g.1 n told ∙ ap (λ (p : Plan). names_i p.work) (sym e.2))
-planned_right x lines f g (Err k) e = sym (decode_refused (word_about x lines) f g.0 k e)
+looked_planned : (x : Waiting) (lines : ℕ) (f : Lookup) → LooksUp x lines f → (r : Result (Named × Plan) Refusal) → PlannedBy f r → Planned (word_about x lines) r
+looked_planned x lines f g (Ok (n, p)) e =
+    planned_right (word_about x lines) g.1 n p (sym (decode_accepted (word_about x lines) f g.0 e.0) ∙ ap accepted (sym e.1)) e.2
+looked_planned x lines f g (Err k) e = sym (decode_refused (word_about x lines) f g.0 k e)
 
 -- the same, by what is known of the waiting word
 pub planned_for : (x y : Waiting) → x ≡ y → (lines : ℕ) (f : Lookup) → LooksUp x lines f → (r : Result (Named × Plan) Refusal) → PlannedBy f r → Planned (word_about y lines) r
-planned_for x y e lines f g r p = subst (λ (y : Waiting). Planned (word_about y lines) r) e (planned_right x lines f g r p)
+planned_for x y e lines f g r p = subst (λ (y : Waiting). Planned (word_about y lines) r) e (looked_planned x lines f g r p)
 
 -- and it names that word's instruction
 pub looked_named : (x : Waiting) (lines : ℕ) (f : Lookup) → LooksUp x lines f → f.named ≡ named_by (word_about x lines)

@@ -6,6 +6,8 @@ use mathlib.Core.List.{List}
 use Prim.Native.Nat.{ℕ, ◌%◌}
 use lib.ListN.{get_or}
 use Rattle.std.specs.Prelude.{Result, Ok, Err}
+use Rattle.choice.specs.Pick.{pick}
+use Rattle.choice.specs.Tells.{refused}
 use Rattle.choice.proofs.Picks.{picked, unpicked}
 use Rattle.choice.proofs.Tells.{accepted_one, refused_one, accepted_refused}
 use Rattle.refusals.specs.declared.Refusal.{Refusal}
@@ -27,9 +29,9 @@ use Rattle.machine.specs.Judging.{Judgement, Refuse, Wait, Perform, word_about, 
 use Rattle.machine.specs.Seeing.{view_of}
 use Rattle.machine.specs.Acting.{effect_of}
 use Rattle.machine.specs.Settling.{latched, settled_of}
-use Rattle.machine.specs.Deciding.{Judges}
 use Rattle.machine.specs.Reporting.{ct_of}
-use Rattle.machine.specs.Cycles.{Turned, report_of, performed_turn, turn_of, cycle_of}
+use Rattle.machine.specs.Cycles.{Turned, report_of, performed_turn, turn_of, turn_tells, cycle_of}
+use Rattle.machine.proofs.Laws.{refused_unchanged}
 use Rattle.machine.specs.Stepping.{registers_of, machine_from, core_of, step_tells, Steps, latched_core, seen_of, settled_ram, settled_core, waiting_step, Performed}
 
 -- an instruction's step, by the core after it
@@ -60,7 +62,10 @@ module _ (ram : List ℕ) (k : Core) (c : Words) where
       → Steps ram k c (Err (record { core = k; named = n; refusal = j })) ram
   refuses j e n f = record { turn = turn_by (Refuse (number_of j)) e; named = f }
 
-  module _ (v : Verdict) (e : Judges k.waiting c (Ok v)) (b : Core) (g : b ≡ latched_core k c.input c.pins) where
+  -- of a verdict, that it is the judgement and names the word's instruction is enough
+  module _ (v : Verdict)
+      (e : (judgement_of k.waiting c ≡ pick v.begins Wait (Perform v.named v.plan v.immediate)) × (v.named ≡ named_by (word_about k.waiting c.lines)))
+      (b : Core) (g : b ≡ latched_core k c.input c.pins) where
     pub waits_first : v.begins ≡ true → Steps ram k c (Ok (waiting_step v.named b c)) ram
     waits_first t = record {
       turn =
@@ -76,6 +81,15 @@ module _ (ram : List ℕ) (k : Core) (c : Words) where
           ∙ turn_by (Perform v.named v.plan v.immediate) (e.0 ∙ unpicked v.begins Wait (Perform v.named v.plan v.immediate) t);
       named = p.named ∙ e.1;
     }
+
+-- a refused step of a machine's RAM and core is its refused cycle
+pub refused_turn : (m : Machine) (k : Core) → k ≡ core_of m.registers → (c : Words) (r : Result Stepped RefusedStep) (j : RefusedStep) (after : List ℕ)
+    → r ≡ Err j → Steps m.registers.ram k c r after → turn_tells (record { machine = m; answer = Err j.refusal }) ≡ cycle_of m c
+refused_turn m k g c r j after e s =
+    let told : step_tells after (Err j) ≡ cycle_of m c =
+    ap (step_tells after) (sym e) ∙ s.turn ∙ ap (λ (k : Core). cycle_of (machine_from m.registers.ram k) c) g in
+    let kept : (cycle_of m c).machine ≡ m = refused_unchanged m c (number_of j.refusal) (ap (λ (u : Turned). u.answer) (sym told)) in
+    ap (λ (n : Machine). record { machine = n; answer = refused (number_of j.refusal) }) (sym (ap (λ (u : Turned). u.machine) told ∙ kept)) ∙ told
 
 -- what a step tells fixes all of it but the instruction
 same_stepped : (s t : Stepped) → s.core ≡ t.core → s.named ≡ t.named → s.report ≡ t.report → s ≡ t

@@ -9,7 +9,7 @@ returns-in-Err c =
     (looked_named c.args.core.waiting c.args.words.lines _ c.look_up-found.ensures)
 
 pub returns-then-judged : goal.returns-then-judged
-returns-then-judged c = rw c.waits.ensures (waits_first c.args.ram.now c.args.core c.args.words c.in-Ok.judged c.in-Ok.ensures _ c.latched-before.ensures c.if-judged.true)
+returns-then-judged c = rw c.waits.ensures (waits_first c.args.ram.now c.args.core c.args.words c.in-Ok.judged (c.in-Ok.ensures.0, c.in-Ok.ensures.1) _ c.latched-before.ensures c.if-judged.true)
 
 pub returns : goal.returns
-returns c = performs_last c.args.ram.now c.args.core c.args.words c.in-Ok.judged c.in-Ok.ensures _ c.latched-before.ensures c.if-judged.false _ _ c.performs.ensures
+returns c = performs_last c.args.ram.now c.args.core c.args.words c.in-Ok.judged (c.in-Ok.ensures.0, c.in-Ok.ensures.1) _ c.latched-before.ensures c.if-judged.false _ _ c.performs.ensures
