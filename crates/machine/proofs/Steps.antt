@@ -1,5 +1,5 @@
 -- A step's ways out: RAM in place and the core are the registers of the definition; and a step has one outcome.
--- The laws, in this order: `step_unique`, `core_of_unique`, `machine_from_unique`.
+-- The laws, in this order: `refused_turn`, `step_unique`, `core_of_unique`, `machine_from_unique`.
 use mathlib.Core.Path.{◌≡◌, refl, ◌∙◌, sym, ap}
 use mathlib.Core.Bool.{true, false}
 use mathlib.Core.List.{List}
